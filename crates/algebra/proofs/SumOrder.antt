@@ -1,0 +1,50 @@
+-- The order of sums, their sizes, and sums over the cells of a grid.
+use mathlib.Core.Path.{_≡_, refl, sym, _∙_, ap, ap₂, subst}
+use mathlib.Core.List.{List, [], _∷_}
+use Prim.Native.Nat.{ℕ, zero, suc, _+_, _*_, _/_, _%_, _≤_, _<_}
+use native.Mathlib.Nat as NatL
+use native.Mathlib.Omega.{arith}
+use lib.IntN.{ℤ, pos, negsuc, negℤ, natAbs, _+ℤ_, _-ℤ_, _*ℤ_}
+use lib.Signed.{_≤ℤ_, _<ℤ_, ≤ℤ-refl}
+use Rattle.algebra.proofs.Solver.{ring!, reify}
+use Rattle.algebra.proofs.Order.{ordℤ, show≤, +ℤ-mono, natAbs-+ℤ, natAbs-mul-le}
+use Rattle.algebra.specs.Sum.{sumTo}
+use Rattle.algebra.proofs.Sum.{sum-cong, sum-split}
+
+pub sum-mono : (n : ℕ) (f g : ℕ → ℤ) → ((i : ℕ) → i < n → f i ≤ℤ g i) → sumTo n f ≤ℤ sumTo n g
+unfolding sumTo
+sum-mono zero f g h = ≤ℤ-refl (pos 0)
+sum-mono (suc n) f g h = +ℤ-mono (sumTo n f) (sumTo n g) (f n) (g n) (sum-mono n f g (λ i k. h i (omega arith))) (h n (omega arith))
+
+pub sum-nonneg : (n : ℕ) (f : ℕ → ℤ) → ((i : ℕ) → i < n → pos 0 ≤ℤ f i) → pos 0 ≤ℤ sumTo n f
+unfolding sumTo
+sum-nonneg zero f h = ≤ℤ-refl (pos 0)
+sum-nonneg (suc n) f h = +ℤ-mono (pos 0) (sumTo n f) (pos 0) (f n) (sum-nonneg n f (λ i k. h i (omega arith))) (h n (omega arith))
+
+pub natAbs-sum : (n : ℕ) (f : ℕ → ℤ) (B : ℕ) → ((i : ℕ) → i < n → natAbs (f i) ≤ B) → natAbs (sumTo n f) ≤ n * B
+unfolding sumTo
+natAbs-sum zero f B h = omega arith
+natAbs-sum (suc n) f B h =
+    omega (arith, natAbs-+ℤ (sumTo n f) (f n), natAbs-sum n f B (λ i k. h i (omega arith)), h n (omega arith))
+
+-- the sum over the cells of a grid, row by row
+pub sum-grid : (H W : ℕ) (f : ℕ → ℤ) → sumTo (H * W) f ≡ sumTo H (λ y. sumTo W (λ x. f (y * W + x)))
+unfolding sumTo
+sum-grid zero W f = rw (NatL.zero-mul W)
+sum-grid (suc H) W f =
+    ap (λ n. sumTo n f) size ∙ sum-split (H * W) W f ∙ ap (λ z. z +ℤ sumTo W (λ x. f (H * W + x))) (sum-grid H W f)
+  where
+    size : suc H * W ≡ H * W + W
+    size = omega arith
+
+-- the same for a function of the row and the column
+pub sum-cells : (H W : ℕ) (g : ℕ → ℕ → ℤ) → 0 < W → sumTo (H * W) (λ m. g (m / W) (m % W)) ≡ sumTo H (λ y. sumTo W (λ x. g y x))
+sum-cells H W g w =
+    sum-grid H W (λ m. g (m / W) (m % W))
+    ∙ sum-cong H (λ y h. sum-cong W (λ x k. ap₂ g (row y x k) (col y x k)))
+  where
+    row : (y x : ℕ) → x < W → (y * W + x) / W ≡ y
+    row y x k = NatL.mul-add-div-right w y x ∙ rw (NatL.div-eq-of-lt k) (NatL.add-zero y)
+
+    col : (y x : ℕ) → x < W → (y * W + x) % W ≡ x
+    col y x k = NatL.mul-add-mod-self-right y W x ∙ NatL.mod-eq-of-lt k

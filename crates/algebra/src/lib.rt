@@ -1,0 +1,1 @@
+// Theory alone: the definitions are in specs/, their laws in proofs/.

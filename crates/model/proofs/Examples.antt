@@ -1,0 +1,24 @@
+-- The starred examples of document 01 hold: each figure is computed from the sums.
+use mathlib.Core.Path.{refl}
+use Rattle.algebra.specs.Sum.{sumTo, sumFrom}
+use Rattle.model.specs.Basic.{tabulate, gridAt, squareAt}
+use Rattle.model.specs.Psf.{psfAt, autocorrelation}
+use Rattle.model.specs.Error.{kernel, error, filteredError, filteredErrors, squaredError}
+use Rattle.model.specs.Examples.{Examples}
+
+pub examples : Examples
+unfolding sumTo sumFrom tabulate gridAt squareAt psfAt autocorrelation kernel error filteredError filteredErrors squaredError
+examples =
+    record {
+      black-blank = refl;
+      even-at-0 = refl;
+      even-at-1 = refl;
+      even-at-2 = refl;
+      pair-blank-table = refl;
+      pair-blank-error = refl;
+      pair-dot-table = refl;
+      pair-dot-error = refl;
+      lopsided-at-0 = refl;
+      lopsided-right = refl;
+      lopsided-left = refl;
+    }

@@ -1,0 +1,27 @@
+-- The few general words that the other definitions use: a choice, a list by its entries, an entry of a square.
+use mathlib.Core.Bool.{Bool, true, false}
+use mathlib.Core.List.{List, [], _∷_, _++_}
+use Prim.Native.Nat.{ℕ, zero, suc, _+_, _*_}
+use lib.Dec.{ltb}
+use lib.IntN.{ℤ, pos, negsuc, _+ℤ_}
+use lib.ListN.{getD}
+
+-- the first of two where the test holds, else the second
+abbrev pub pick {ℓ} : {A : Type ℓ} → Bool → A → A → A
+pick true a b = a
+pick false a b = b
+
+-- f 0, f 1, … f (n - 1)
+unfoldable pub tabulate {ℓ} : {A : Type ℓ} → ℕ → (ℕ → A) → List A
+tabulate zero f = []
+tabulate (suc n) f = tabulate n f ++ (f n ∷ [])
+
+-- row y and column x of a square of n rows given row by row, and z outside it
+unfoldable pub gridAt : {A : Type 0} → A → ℕ → List A → ℤ → ℤ → A
+gridAt z n l (pos y) (pos x) = pick (ltb y n) (pick (ltb x n) (getD l (y * n + x) z) z) z
+gridAt z n l (pos y) (negsuc x) = z
+gridAt z n l (negsuc y) x = z
+
+-- the same by the offset from the middle of a square of 2r + 1 rows: rows down, columns right
+unfoldable pub squareAt : {A : Type 0} → A → ℕ → List A → ℤ → ℤ → A
+squareAt z r l dy dx = gridAt z (2 * r + 1) l (dy +ℤ pos r) (dx +ℤ pos r)

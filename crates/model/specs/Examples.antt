@@ -1,0 +1,42 @@
+-- The starred examples of document 01, as one table: a field for each figure. `examples` of proofs/Examples.antt fills it
+-- by computing the sums.
+use mathlib.Core.Path.{_≡_}
+use mathlib.Core.List.{List, [], _∷_}
+use Prim.Native.Nat.{ℕ}
+use lib.IntN.{ℤ, pos, negsuc}
+use Rattle.model.specs.Psf.{autocorrelation}
+use Rattle.model.specs.Error.{Target, targetOf, filteredErrors, squaredError}
+
+-- 1 by 1, r 0, p 1
+abbrev pub single : ℕ → Target
+single gray = targetOf 1 1 0 (1 ∷ []) (gray ∷ [])
+
+-- p rows `0 0 0`, `1 2 1`, `0 0 0`
+abbrev pub even : List ℕ
+even = 0 ∷ 0 ∷ 0 ∷ 1 ∷ 2 ∷ 1 ∷ 0 ∷ 0 ∷ 0 ∷ []
+
+-- p rows `0 0 0`, `0 1 2`, `0 0 0`
+abbrev pub lopsided : List ℕ
+lopsided = 0 ∷ 0 ∷ 0 ∷ 0 ∷ 1 ∷ 2 ∷ 0 ∷ 0 ∷ 0 ∷ []
+
+-- 2 by 1, r 1, with the even psf
+abbrev pub pair : ℕ → ℕ → Target
+pair a b = targetOf 2 1 1 even (a ∷ b ∷ [])
+
+pub record Examples : Type 0 where
+  -- 1 by 1, r 0, p 1, gray 255, blank: E 65025
+  pub black-blank : squaredError (single 255) (0 ∷ []) ≡ pos 65025
+  -- p rows `0 0 0`, `1 2 1`, `0 0 0`: c along the row 6, 4, 1 at 0, 1, 2
+  pub even-at-0 : autocorrelation 1 even (pos 0) (pos 0) ≡ pos 6
+  pub even-at-1 : autocorrelation 1 even (pos 0) (pos 1) ≡ pos 4
+  pub even-at-2 : autocorrelation 1 even (pos 0) (pos 2) ≡ pos 1
+  -- gray 100 100, blank: T -1000 -1000, E 200000
+  pub pair-blank-table : filteredErrors (pair 100 100) (0 ∷ 0 ∷ []) ≡ negsuc 999 ∷ negsuc 999 ∷ []
+  pub pair-blank-error : squaredError (pair 100 100) (0 ∷ 0 ∷ []) ≡ pos 200000
+  -- gray 100 130, dots 1 0: T 410 -160, E 84350
+  pub pair-dot-table : filteredErrors (pair 100 130) (1 ∷ 0 ∷ []) ≡ pos 410 ∷ negsuc 159 ∷ []
+  pub pair-dot-error : squaredError (pair 100 130) (1 ∷ 0 ∷ []) ≡ pos 84350
+  -- p rows `0 0 0`, `0 1 2`, `0 0 0`: c 5, and 2 at one step either way
+  pub lopsided-at-0 : autocorrelation 1 lopsided (pos 0) (pos 0) ≡ pos 5
+  pub lopsided-right : autocorrelation 1 lopsided (pos 0) (pos 1) ≡ pos 2
+  pub lopsided-left : autocorrelation 1 lopsided (pos 0) (negsuc 0) ≡ pos 2

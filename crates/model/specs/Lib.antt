@@ -1,0 +1,7 @@
+pub mod Basic
+pub mod Psf
+pub mod Error
+pub mod Window
+pub mod Refusal
+pub mod Calls
+pub mod Examples

@@ -1,0 +1,72 @@
+-- Document 01's refusals because of the input: each is a number with its condition, and a call is refused with the number
+-- of the first in its list whose condition holds.
+use mathlib.Core.Bool.{Bool, true, false, _||_, not}
+use mathlib.Core.List.{List, [], _∷_}
+use Prim.Native.Nat.{ℕ, _+_, _*_}
+use lib.Dec.{ltb, eqb}
+use lib.ListN.{length}
+use Rattle.model.specs.Psf.{total}
+
+infix 70 _when_
+pub data Refusal : Type 0 where
+  _when_ : ℕ → Bool → Refusal
+
+-- the number of the first whose condition holds, 0 where none does
+abbrev pub firstOf : List Refusal → ℕ
+firstOf [] = 0
+firstOf (n when true ∷ l) = n
+firstOf (n when false ∷ l) = firstOf l
+
+-- ---- the conditions
+-- outside 1 to 256
+abbrev pub outside : ℕ → Bool
+outside n = eqb n 0 || ltb 256 n
+
+-- one of the lengths is not n
+abbrev pub differs : ℕ → List ℕ → Bool
+differs n [] = false
+differs n (l ∷ ls) = not (eqb l n) || differs n ls
+
+-- one of the bytes is above k
+unfoldable pub above : ℕ → List ℕ → Bool
+above k [] = false
+above k (x ∷ l) = ltb k x || above k l
+
+-- ---- the list, by number
+-- 1 width or height outside 1 to 256
+abbrev pub badSize : ℕ → ℕ → Refusal
+badSize width height = 1 when (outside width || outside height)
+
+-- 2 radius above 3
+abbrev pub badRadius : ℕ → Refusal
+badRadius radius = 2 when ltb 3 radius
+
+-- 5 a lent slice of another length than its measure: the psf is (2r + 1)² long, the others as long as the cells
+abbrev pub badLength : ℕ → List ℕ → ℕ → List ℕ → Refusal
+badLength radius psf cells lengths =
+    5 when (not (eqb (length psf) ((2 * radius + 1) * (2 * radius + 1))) || differs cells lengths)
+
+-- 6 psf sum 0 or above 1,024
+abbrev pub badSum : List ℕ → Refusal
+badSum psf = 6 when (eqb (total psf) 0 || ltb 1024 (total psf))
+
+-- 7 a dot byte above 1
+abbrev pub badDot : List ℕ → Refusal
+badDot dots = 7 when above 1 dots
+
+-- ---- the calls, each by the parts that it is handed
+-- the autocorrelation, handed an output of that length
+unfoldable pub autocorrelationRefusal : ℕ → List ℕ → ℕ → ℕ
+autocorrelationRefusal radius psf out =
+    firstOf (badRadius radius ∷ badLength radius psf ((4 * radius + 1) * (4 * radius + 1)) (out ∷ []) ∷ badSum psf ∷ [])
+
+-- the squared error and, with the length of the table lent, the filtered error
+unfoldable pub plateRefusal : ℕ → ℕ → ℕ → List ℕ → List ℕ → List ℕ → List ℕ → ℕ
+plateRefusal width height radius psf gray dots others =
+    firstOf
+    (badSize width height
+    ∷ badRadius radius
+    ∷ badLength radius psf (height * width) (length gray ∷ length dots ∷ others)
+    ∷ badSum psf
+    ∷ badDot dots
+    ∷ [])

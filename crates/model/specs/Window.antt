@@ -1,0 +1,24 @@
+-- The window update: what adding a kernel, times an amount, around one cell does to a table.
+use mathlib.Core.List.{List}
+use Prim.Native.Nat.{ℕ, _/_, _%_, _≤_}
+use lib.IntN.{ℤ, pos, natAbs, _+ℤ_, _-ℤ_, _*ℤ_}
+use lib.ListN.{length, getD}
+use Rattle.model.specs.Basic.{tabulate, squareAt}
+
+-- every cell q of a table of that width gains amount × c(q - m), where m stands at (row, col) and c is a square of reach R
+unfoldable pub addWindow : (width R : ℕ) (c : List ℤ) (amount : ℤ) (row col : ℕ) → List ℤ → List ℤ
+addWindow width R c amount row col t =
+    tabulate (length t) (λ q.
+    getD t q (pos 0) +ℤ amount *ℤ squareAt (pos 0) R c (pos (q / width) -ℤ pos row) (pos (q % width) -ℤ pos col))
+
+-- every entry is at most k from 0
+pub record Small (k : ℕ) (l : List ℤ) : Type 0 where
+  pub each : (q : ℕ) → natAbs (getD l q (pos 0)) ≤ k
+
+-- and so is every entry times an amount
+pub record Scaled (k : ℕ) (amount : ℤ) (l : List ℤ) : Type 0 where
+  pub each : (q : ℕ) → natAbs (amount *ℤ getD l q (pos 0)) ≤ k
+
+-- the largest size of a table entry: 255 × 1,024²
+abbrev pub mostFiltered : ℕ
+mostFiltered = 267386880
