@@ -1,6 +1,7 @@
 pub mod Ring
 pub mod Solver
 pub mod Order
+pub mod Grid
 pub mod Sum
 pub mod SumOrder
 pub mod Interval

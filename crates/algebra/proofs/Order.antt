@@ -207,6 +207,19 @@ natAbs-+ℤ a b = natAbs-show (a ∷ b ∷ []) (a +ℤ b) (search reify) (omega 
 pub natAbs-mul-le : (a b : ℤ) {A B : ℕ} → natAbs a ≤ A → natAbs b ≤ B → natAbs (a *ℤ b) ≤ A * B
 natAbs-mul-le a b h k = rw (natAbs-*ℤ a b) (NatL.mul-le-mul h k)
 
+pub natAbs-below : (z : ℤ) (k : ℕ) → pos 0 ≤ℤ z → z ≤ℤ pos k → natAbs z ≤ k
+natAbs-below (pos n) k h l = omega (arith, ordℤ)
+natAbs-below (negsuc n) k h l = absurd (h .le)
+
+pub natAbs-above : (z : ℤ) (k : ℕ) → natAbs z ≤ k → z ≤ℤ pos k
+natAbs-above (pos n) k h = omega (arith, ordℤ)
+natAbs-above (negsuc n) k h = omega (arith, ordℤ)
+
+pub natAbs-plus : (a b : ℤ) → pos 0 ≤ℤ a → pos 0 ≤ℤ b → natAbs (a +ℤ b) ≡ natAbs a + natAbs b
+natAbs-plus (pos a) (pos b) h k = refl
+natAbs-plus (pos a) (negsuc b) h k = absurd (k .le)
+natAbs-plus (negsuc a) b h k = absurd (h .le)
+
 pub mag-natAbs : (z : ℤ) → mag z ≤ natAbs z
 mag-natAbs (pos n) = omega arith
 mag-natAbs (negsuc n) = omega arith
@@ -232,6 +245,9 @@ pub *ℤ-mono : (k a b : ℤ) → pos 0 ≤ℤ k → a ≤ℤ b → (k *ℤ a) �
 
 pub +ℤ-mono : (a b c d : ℤ) → a ≤ℤ b → c ≤ℤ d → (a +ℤ c) ≤ℤ (b +ℤ d)
 +ℤ-mono a b c d h k = show≤ (a ∷ b ∷ c ∷ d ∷ []) (search reify depth 40) (omega (arith, ordℤ))
+
+pub ≤ℤ-trans : (a b c : ℤ) → a ≤ℤ b → b ≤ℤ c → a ≤ℤ c
+≤ℤ-trans a b c h k = omega (arith, ordℤ)
 
 pub ≤ℤ-antisym : (a b : ℤ) → a ≤ℤ b → b ≤ℤ a → a ≡ b
 ≤ℤ-antisym a b h k = parts a ∙ show≡ ∙ sym (parts b)

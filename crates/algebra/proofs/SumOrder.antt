@@ -1,14 +1,15 @@
 -- The order of sums, their sizes, and sums over the cells of a grid.
 use mathlib.Core.Path.{_≡_, refl, sym, _∙_, ap, ap₂, subst}
 use mathlib.Core.List.{List, [], _∷_}
-use Prim.Native.Nat.{ℕ, zero, suc, _+_, _*_, _/_, _%_, _≤_, _<_}
+use Prim.Native.Nat.{ℕ, zero, suc, _+_, _*_, _-_, _/_, _%_, _≤_, _<_}
 use native.Mathlib.Nat as NatL
 use native.Mathlib.Omega.{arith}
 use lib.IntN.{ℤ, pos, negsuc, negℤ, natAbs, _+ℤ_, _-ℤ_, _*ℤ_}
 use lib.Signed.{_≤ℤ_, _<ℤ_, ≤ℤ-refl}
 use Rattle.algebra.proofs.Solver.{ring!, reify}
-use Rattle.algebra.proofs.Order.{ordℤ, show≤, +ℤ-mono, natAbs-+ℤ, natAbs-mul-le}
+use Rattle.algebra.proofs.Order.{ordℤ, show≤, +ℤ-mono, natAbs-+ℤ, natAbs-plus, natAbs-mul-le}
 use Rattle.algebra.specs.Sum.{sumTo}
+use Rattle.algebra.proofs.Grid.{cell-row, cell-column}
 use Rattle.algebra.proofs.Sum.{sum-cong, sum-split}
 
 pub sum-mono : (n : ℕ) (f g : ℕ → ℤ) → ((i : ℕ) → i < n → f i ≤ℤ g i) → sumTo n f ≤ℤ sumTo n g
@@ -27,6 +28,32 @@ natAbs-sum zero f B h = omega arith
 natAbs-sum (suc n) f B h =
     omega (arith, natAbs-+ℤ (sumTo n f) (f n), natAbs-sum n f B (λ i k. h i (omega arith)), h n (omega arith))
 
+-- the first terms of a sum that has no negative term
+pub sum-first≤ : (n N : ℕ) (f : ℕ → ℤ) → n ≤ N → ((i : ℕ) → pos 0 ≤ℤ f i) → sumTo n f ≤ℤ sumTo N f
+sum-first≤ n N f h p =
+    subst (λ z. sumTo n f ≤ℤ z) (sym (ap (λ k. sumTo k f) size ∙ sum-split n (N - n) f))
+    (more (sumTo n f) (sumTo (N - n) (λ i. f (n + i))) (sum-nonneg (N - n) _ (λ i l. p (n + i))))
+  where
+    size : N ≡ n + (N - n)
+    size = omega arith
+
+    more : (a b : ℤ) → pos 0 ≤ℤ b → a ≤ℤ (a +ℤ b)
+    more a b k = show≤ (a ∷ b ∷ []) (search reify depth 40) (omega (arith, ordℤ))
+
+-- a sum of small terms with weights that are never negative
+pub weighted≤ : (N : ℕ) (c e : ℕ → ℤ) (B : ℕ) → ((n : ℕ) → pos 0 ≤ℤ c n) → ((n : ℕ) → natAbs (e n) ≤ B)
+    → natAbs (sumTo N (λ n. c n *ℤ e n)) ≤ natAbs (sumTo N c) * B
+unfolding sumTo
+weighted≤ zero c e B h k = omega arith
+weighted≤ (suc n) c e B h k =
+    rw (natAbs-plus (sumTo n c) (c n) (sum-nonneg n c (λ i l. h i)) (h n))
+    (omega (
+      arith,
+      natAbs-+ℤ (sumTo n (λ n. c n *ℤ e n)) (c n *ℤ e n),
+      weighted≤ n c e B h k,
+      natAbs-mul-le (c n) (e n) (NatL.le-refl (natAbs (c n))) (k n),
+    ))
+
 -- the sum over the cells of a grid, row by row
 pub sum-grid : (H W : ℕ) (f : ℕ → ℤ) → sumTo (H * W) f ≡ sumTo H (λ y. sumTo W (λ x. f (y * W + x)))
 unfolding sumTo
@@ -38,13 +65,7 @@ sum-grid (suc H) W f =
     size = omega arith
 
 -- the same for a function of the row and the column
-pub sum-cells : (H W : ℕ) (g : ℕ → ℕ → ℤ) → 0 < W → sumTo (H * W) (λ m. g (m / W) (m % W)) ≡ sumTo H (λ y. sumTo W (λ x. g y x))
-sum-cells H W g w =
+pub sum-cells : (H W : ℕ) (g : ℕ → ℕ → ℤ) → sumTo (H * W) (λ m. g (m / W) (m % W)) ≡ sumTo H (λ y. sumTo W (λ x. g y x))
+sum-cells H W g =
     sum-grid H W (λ m. g (m / W) (m % W))
-    ∙ sum-cong H (λ y h. sum-cong W (λ x k. ap₂ g (row y x k) (col y x k)))
-  where
-    row : (y x : ℕ) → x < W → (y * W + x) / W ≡ y
-    row y x k = NatL.mul-add-div-right w y x ∙ rw (NatL.div-eq-of-lt k) (NatL.add-zero y)
-
-    col : (y x : ℕ) → x < W → (y * W + x) % W ≡ x
-    col y x k = NatL.mul-add-mod-self-right y W x ∙ NatL.mod-eq-of-lt k
+    ∙ sum-cong H (λ y h. sum-cong W (λ x k. ap₂ g (cell-row k) (cell-column y k)))

@@ -1,1 +1,4 @@
+pub mod Basic
+pub mod Psf
+pub mod Error
 pub mod Examples

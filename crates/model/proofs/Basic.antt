@@ -1,0 +1,150 @@
+-- Laws of the general words: a tabulated list by its entries, and a square inside and outside.
+use mathlib.Core.Path.{_≡_, refl, sym, _∙_, ap, ap₂}
+use mathlib.Core.Bool.{Bool, true, false}
+use mathlib.Core.List.{List, [], _∷_, _++_}
+use Prim.Native.Nat.{ℕ, zero, suc, _+_, _*_, _≤_, _<_}
+use native.Mathlib.Nat.{not-suc-le-zero}
+use native.Mathlib.Decide.{ℕ-discrete, decLt}
+use native.Mathlib.Omega.{arith}
+use lib.Dec.{T, ltb, leb→le, ltb→lt, lt→ltb}
+use lib.IntN.{ℤ, pos, negsuc, negℤ, _+ℤ_, _-ℤ_}
+use lib.Signed.{_≤ℤ_, _<ℤ_}
+use lib.ListN.{length, getD, length-append, List·getD-append}
+use lib.Seq.{getD-at, ext-getD}
+use Rattle.algebra.proofs.Solver.{ring!, reify}
+use Rattle.algebra.proofs.Order.{show≤, show<, read<, read≡}
+use Rattle.algebra.proofs.Interval.{Supported2}
+use Rattle.model.specs.Basic.{pick, tabulate, gridAt, squareAt}
+
+-- ---- a choice whose test is known
+pub pick-yes {ℓ} : {A : Type ℓ} (b : Bool) (x y : A) → T b → pick b x y ≡ x
+pick-yes true x y t = refl
+pick-yes false x y t = absurd t
+
+pub pick-no {ℓ} : {A : Type ℓ} (b : Bool) (x y : A) → (T b → ⊥) → pick b x y ≡ y
+pick-no true x y t = absurd (t tt)
+pick-no false x y t = refl
+
+-- ---- a tabulated list
+pub length-tabulate {ℓ} : {A : Type ℓ} (n : ℕ) (f : ℕ → A) → length (tabulate n f) ≡ n
+unfolding tabulate
+length-tabulate zero f = refl
+length-tabulate (suc n) f = length-append (tabulate n f) (f n ∷ []) ∙ omega (arith, length-tabulate n f)
+
+pub getD-tabulate {ℓ} : {A : Type ℓ} (n : ℕ) (f : ℕ → A) (i : ℕ) (z : A) → i < n → getD (tabulate n f) i z ≡ f i
+unfolding tabulate
+getD-tabulate zero f i z h = absurd (not-suc-le-zero h)
+getD-tabulate (suc n) f i z h = go (ℕ-discrete i n) (getD-tabulate n f i z)
+  where
+    go : Dec (i ≡ n) → (i < n → getD (tabulate n f) i z ≡ f i) → getD (tabulate n f ++ (f n ∷ [])) i z ≡ f i
+    go (yes e) ih = rw e (getD-at (tabulate n f) (f n) [] z n (length-tabulate n f))
+    go (no e) ih = List·getD-append (tabulate n f) (f n ∷ []) z i (rw (length-tabulate n f) (omega arith)) ∙ ih (omega arith)
+
+-- a list of n entries that are those of f
+pub tabulate-by {ℓ} : {A : Type ℓ} (z : A) (n : ℕ) (f : ℕ → A) (l : List A) → length l ≡ n
+    → ((i : ℕ) → i < n → getD l i z ≡ f i) → l ≡ tabulate n f
+tabulate-by z n f l e h =
+    ext-getD z l (tabulate n f) (e ∙ (rw (length-tabulate n f) refl))
+    (λ i k. h i (rw e at k) ∙ (rw (getD-tabulate n f i z (rw e at k)) refl))
+
+-- ---- a square
+module _ {A : Type 0} (z : A) (n : ℕ) (l : List A) where
+  over : (i : ℕ) → n ≤ i → T (ltb i n) → ⊥
+  over i h t = omega (arith, ltb→lt i n t)
+
+  same : (b : Bool) → pick b z z ≡ z
+  same true = refl
+  same false = refl
+
+  row-before : (y x : ℤ) → y <ℤ pos 0 → gridAt z n l y x ≡ z
+  unfolding gridAt
+  row-before (pos i) x h = absurd (omega (arith, ltb→lt i 0 (h .lt)))
+  row-before (negsuc i) x h = refl
+
+  row-after : (y x : ℤ) → pos n ≤ℤ y → gridAt z n l y x ≡ z
+  unfolding gridAt
+  row-after (pos i) (pos x) h = pick-no (ltb i n) _ z (over i (leb→le n i (h .le)))
+  row-after (pos i) (negsuc x) h = refl
+  row-after (negsuc i) x h = refl
+
+  column-before : (y x : ℤ) → x <ℤ pos 0 → gridAt z n l y x ≡ z
+  unfolding gridAt
+  column-before (pos y) (pos i) h = absurd (omega (arith, ltb→lt i 0 (h .lt)))
+  column-before (pos y) (negsuc i) h = refl
+  column-before (negsuc y) x h = refl
+
+  column-after : (y x : ℤ) → pos n ≤ℤ x → gridAt z n l y x ≡ z
+  unfolding gridAt
+  column-after (pos y) (pos i) h = rw (pick-no (ltb i n) (getD l (y * n + i) z) z (over i (leb→le n i (h .le)))) (same (ltb y n))
+  column-after (pos y) (negsuc i) h = refl
+  column-after (negsuc y) x h = refl
+
+  grid-inside : (i j : ℕ) → i < n → j < n → gridAt z n l (pos i) (pos j) ≡ getD l (i * n + j) z
+  unfolding gridAt
+  grid-inside i j h k = pick-yes (ltb i n) _ z (lt→ltb i n h) ∙ pick-yes (ltb j n) _ z (lt→ltb j n k)
+
+low : (r : ℕ) (y : ℤ) → y <ℤ negℤ (pos r) → (y +ℤ pos r) <ℤ pos 0
+low r y h = show< (y ∷ pos r ∷ []) (search reify depth 40) (omega (arith, read< (y ∷ pos r ∷ []) (search reify depth 40) h))
+
+high : (r : ℕ) (y : ℤ) → pos r <ℤ y → pos (2 * r + 1) ≤ℤ (y +ℤ pos r)
+high r y h = show≤ (y ∷ pos r ∷ []) (search reify depth 40) (omega (arith, read< (y ∷ pos r ∷ []) (search reify depth 40) h))
+
+-- outside: above, below, left and right of it
+module _ {A : Type 0} (z : A) (r : ℕ) (l : List A) (dy dx : ℤ) where
+  pub square-above : dy <ℤ negℤ (pos r) → squareAt z r l dy dx ≡ z
+  unfolding squareAt
+  square-above h = row-before z (2 * r + 1) l (dy +ℤ pos r) (dx +ℤ pos r) (low r dy h)
+
+  pub square-below : pos r <ℤ dy → squareAt z r l dy dx ≡ z
+  unfolding squareAt
+  square-below h = row-after z (2 * r + 1) l (dy +ℤ pos r) (dx +ℤ pos r) (high r dy h)
+
+  pub square-left : dx <ℤ negℤ (pos r) → squareAt z r l dy dx ≡ z
+  unfolding squareAt
+  square-left h = column-before z (2 * r + 1) l (dy +ℤ pos r) (dx +ℤ pos r) (low r dx h)
+
+  pub square-right : pos r <ℤ dx → squareAt z r l dy dx ≡ z
+  unfolding squareAt
+  square-right h = column-after z (2 * r + 1) l (dy +ℤ pos r) (dx +ℤ pos r) (high r dx h)
+
+  -- inside, by the row and column counted from its corner
+  pub square-inside : (i j : ℕ) → dy +ℤ pos r ≡ pos i → dx +ℤ pos r ≡ pos j → i < 2 * r + 1 → j < 2 * r + 1
+      → squareAt z r l dy dx ≡ getD l (i * (2 * r + 1) + j) z
+  unfolding squareAt
+  square-inside i j e f h k = ap₂ (gridAt z (2 * r + 1) l) e f ∙ grid-inside z (2 * r + 1) l i j h k
+
+-- where an offset lies: before the square, after it, or at the place i counted from its edge
+pub data Place (r : ℕ) (d : ℤ) : Type 0 where
+  before : d <ℤ negℤ (pos r) → Place r d
+  within : (i : ℕ) → i < 2 * r + 1 → d +ℤ pos r ≡ pos i → Place r d
+  after : pos r <ℤ d → Place r d
+
+pub place : (r : ℕ) (d : ℤ) → Place r d
+place r d = go (d +ℤ pos r) refl
+  where
+    at : (i : ℕ) → d +ℤ pos r ≡ pos i → Dec (i < 2 * r + 1) → Place r d
+    at i e (yes h) = within i h e
+    at i e (no h) =
+        after (show< (d ∷ pos r ∷ []) (search reify depth 40) (omega (arith, read≡ (d ∷ pos r ∷ pos i ∷ []) (search reify depth 40) e)))
+
+    go : (z : ℤ) → d +ℤ pos r ≡ z → Place r d
+    go (pos i) e = at i e (decLt i (2 * r + 1))
+    go (negsuc i) e =
+        before (show< (d ∷ pos r ∷ []) (search reify depth 40) (omega (arith, read≡ (d ∷ pos r ∷ negsuc i ∷ []) (search reify depth 40) e)))
+
+-- a square that holds f inside, where f is 0 outside, holds f at every offset
+pub square-by : (r : ℕ) (l : List ℤ) (f : ℤ → ℤ → ℤ) → Supported2 r f
+    → ((i j : ℕ) → i < 2 * r + 1 → j < 2 * r + 1 → getD l (i * (2 * r + 1) + j) (pos 0) ≡ f (pos i -ℤ pos r) (pos j -ℤ pos r))
+    → (dy dx : ℤ) → squareAt (pos 0) r l dy dx ≡ f dy dx
+square-by r l f s h dy dx = go (place r dy) (place r dx)
+  where
+    back : (d : ℤ) (i : ℕ) → d +ℤ pos r ≡ pos i → pos i -ℤ pos r ≡ d
+    back d i e = ap (λ z. z -ℤ pos r) (sym e) ∙ ring! (d ∷ pos r ∷ []) (search reify depth 40) refl
+
+    go : Place r dy → Place r dx → squareAt (pos 0) r l dy dx ≡ f dy dx
+    go (before k) q = square-above (pos 0) r l dy dx k ∙ sym (s .rows dx .below dy k)
+    go (after k) q = square-below (pos 0) r l dy dx k ∙ sym (s .rows dx .above dy k)
+    go (within i k e) (before q) = square-left (pos 0) r l dy dx q ∙ sym (s .columns dy .below dx q)
+    go (within i k e) (after q) = square-right (pos 0) r l dy dx q ∙ sym (s .columns dy .above dx q)
+    go (within i k e) (within j q g) =
+        square-inside (pos 0) r l dy dx i j e g k q ∙ h i j k q ∙ ap₂ f (back dy i e) (back dx j g)

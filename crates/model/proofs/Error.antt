@@ -1,0 +1,139 @@
+-- Laws of the sums: the kernel is symmetric, the squared error is the sum of the squares of the perceived error, so it is
+-- never negative, and the bounds of both that make the machine arithmetic safe.
+use mathlib.Core.Path.{_≡_, refl, sym, _∙_, ap, ap₂, subst}
+use mathlib.Core.List.{List, [], _∷_}
+use Prim.Native.Nat.{ℕ, _+_, _*_, _/_, _%_, _≤_, _<_}
+use native.Mathlib.Nat as NatL
+use native.Mathlib.Omega.{arith}
+use lib.IntN.{ℤ, pos, negℤ, natAbs, _+ℤ_, _-ℤ_, _*ℤ_, +ℤ-comm}
+use lib.Signed.{_≤ℤ_}
+use lib.ListN.{length, getD}
+use Rattle.algebra.specs.Sum.{sumTo, sumFrom}
+use Rattle.algebra.specs.Quadratic.{transform, bilinear, quadratic}
+use Rattle.algebra.proofs.Solver.{ring!, reify}
+use Rattle.algebra.proofs.Order.{ordℤ, ≤ℤ-trans, 0≤-square, natAbs-show, natAbs-below, natAbs-mul-le}
+use Rattle.algebra.proofs.Sum.{sum-cong}
+use Rattle.algebra.proofs.SumOrder.{sum-nonneg, sum-cells, sum-first≤, weighted≤, natAbs-sum}
+use Rattle.algebra.proofs.Interval.{sumFrom-cong, sumFrom-swap, sumFrom-nonneg, correlate-widened, Supported2}
+use Rattle.algebra.proofs.Quadratic.{quadratic-cong, gram}
+use Rattle.model.specs.Psf.{total, psfAt, autocorrelation}
+use Rattle.model.specs.Error.{Target, cells, row, column, kernel, error, filteredError, squaredError, perceivedError, perceivedSquares}
+use Rattle.model.proofs.Psf.{psf-supported, autocorrelation-even, autocorrelation-nonneg, autocorrelation-grid≤}
+
+module _ (t : Target) where
+  -- T and E are the transform and the quadratic form of the kernel, so the law of an edit is theirs
+  pub filtered-transform : (dots : List ℕ) (m : ℕ) → filteredError t dots m ≡ transform (kernel t) (cells t) (error t dots) m
+  unfolding filteredError transform
+  filtered-transform dots m = refl
+
+  pub squared-quadratic : (dots : List ℕ) → squaredError t dots ≡ quadratic (kernel t) (cells t) (error t dots)
+  unfolding squaredError filteredError quadratic bilinear transform
+  squared-quadratic dots = refl
+
+  -- c(n - m) = c(m - n)
+  pub kernel-symmetric : (n m : ℕ) → kernel t n m ≡ kernel t m n
+  unfolding kernel
+  kernel-symmetric n m =
+      autocorrelation-even (t .radius) (t .psf) (row t n -ℤ row t m) (column t n -ℤ column t m)
+      ∙ ap₂ (autocorrelation (t .radius) (t .psf)) (turn (row t n) (row t m)) (turn (column t n) (column t m))
+    where
+      turn : (a b : ℤ) → negℤ (a -ℤ b) ≡ b -ℤ a
+      turn a b = ring! (a ∷ b ∷ []) (search reify depth 40) refl
+
+  pub kernel-nonneg : (n m : ℕ) → pos 0 ≤ℤ kernel t n m
+  unfolding kernel
+  kernel-nonneg n m = autocorrelation-nonneg (t .radius) (t .psf) (row t n -ℤ row t m) (column t n -ℤ column t m)
+
+  module _ (wide : 0 < t .width) where
+    pub row< : (m : ℕ) → m < cells t → m / t .width < t .height
+    row< m h = NatL.div-lt-iff-lt-mul wide .1 h
+
+    pub column< : (m : ℕ) → m % t .width < t .width
+    column< m = NatL.mod-lt m wide
+
+    -- over the widened plate, two cells' psfs overlap by the kernel between them
+    overlap : (m n : ℕ) → m < cells t → n < cells t
+        → sumFrom (negℤ (pos (t .radius))) (t .height + 2 * t .radius) (λ y.
+        sumFrom (negℤ (pos (t .radius))) (t .width + 2 * t .radius) (λ x.
+        psfAt (t .radius) (t .psf) (y -ℤ row t m) (x -ℤ column t m) *ℤ psfAt (t .radius) (t .psf) (y -ℤ row t n) (x -ℤ column t n)))
+        ≡ kernel t m n
+    unfolding kernel autocorrelation
+    overlap m n h k =
+        sumFrom-cong o (t .height + 2 * r) (λ y. correlate-widened r (t .width) (m % t .width) (column t n) (p (y -ℤ row t m)) (p (y -ℤ row t n)) (column< m) (s .columns (y -ℤ row t m)))
+        ∙ sumFrom-swap o o (t .height + 2 * r) (2 * r + 1) (λ y l. p (y -ℤ row t m) l *ℤ p (y -ℤ row t n) (l +ℤ (column t m -ℤ column t n)))
+        ∙ sumFrom-cong o (2 * r + 1) (λ l. correlate-widened r (t .height) (m / t .width) (row t n) (λ k. p k l) (λ k. p k (l +ℤ (column t m -ℤ column t n))) (row< m h) (s .rows l))
+        ∙ sumFrom-swap o o (2 * r + 1) (2 * r + 1) (λ l k. p k l *ℤ p (k +ℤ (row t m -ℤ row t n)) (l +ℤ (column t m -ℤ column t n)))
+      where
+        r : ℕ
+        r = t .radius
+
+        o : ℤ
+        o = negℤ (pos (t .radius))
+
+        p : ℤ → ℤ → ℤ
+        p = psfAt (t .radius) (t .psf)
+
+        s : Supported2 (t .radius) (psfAt (t .radius) (t .psf))
+        s = psf-supported (t .radius) (t .psf)
+
+    -- E is the sum of the squares of the perceived error
+    pub squared-perceived : (dots : List ℕ) → squaredError t dots ≡ perceivedSquares t dots
+    unfolding perceivedSquares perceivedError sumFrom
+    squared-perceived dots =
+        squared-quadratic dots
+        ∙ sym (gram (t .height + 2 * t .radius) (t .width + 2 * t .radius) (cells t)
+        (λ y x n. psfAt (t .radius) (t .psf) (negℤ (pos (t .radius)) +ℤ pos y -ℤ row t n) (negℤ (pos (t .radius)) +ℤ pos x -ℤ column t n)) (error t dots)
+        ∙ quadratic-cong (cells t) _ (kernel t) (error t dots) overlap)
+
+    pub squared-nonneg : (dots : List ℕ) → pos 0 ≤ℤ squaredError t dots
+    unfolding perceivedSquares
+    squared-nonneg dots =
+        subst (λ z. pos 0 ≤ℤ z) (sym (squared-perceived dots))
+        (sumFrom-nonneg _ _ _ (λ y. sumFrom-nonneg _ _ _ (λ x. 0≤-square (perceivedError t dots y x))))
+
+    -- ---- bounds
+    module _ (long : length (t .psf) ≡ (2 * t .radius + 1) * (2 * t .radius + 1)) where
+      -- the kernels of any first cells with m
+      kernels≤ : (k m : ℕ) → k ≤ cells t → sumTo k (λ n. kernel t n m) ≤ℤ (pos (total (t .psf)) *ℤ pos (total (t .psf)))
+      unfolding kernel sumFrom
+      kernels≤ k m h =
+          ≤ℤ-trans _ (sumTo (cells t) (λ n. kernel t n m)) _
+          (sum-first≤ k (cells t) (λ n. kernel t n m) h (λ n. kernel-nonneg n m))
+          (subst (λ z. z ≤ℤ (pos (total (t .psf)) *ℤ pos (total (t .psf)))) (sym by-offset)
+          (autocorrelation-grid≤ (t .radius) (t .psf) long (t .height) (t .width) (negℤ (row t m)) (negℤ (column t m))))
+        where
+          c : ℤ → ℤ → ℤ
+          c = autocorrelation (t .radius) (t .psf)
+
+          by-offset : sumTo (cells t) (λ n. kernel t n m) ≡ sumFrom (negℤ (row t m)) (t .height) (λ y. sumFrom (negℤ (column t m)) (t .width) (c y))
+          by-offset =
+              sum-cells (t .height) (t .width) (λ y x. c (pos y -ℤ row t m) (pos x -ℤ column t m))
+              ∙ sum-cong (t .height) (λ y i. sum-cong (t .width) (λ x j.
+              ap₂ c (+ℤ-comm (pos y) (negℤ (row t m))) (+ℤ-comm (pos x) (negℤ (column t m)))))
+
+      module _ (M B : ℕ) (small : total (t .psf) ≤ M) (dots : List ℕ) (errors : (n : ℕ) → natAbs (error t dots n) ≤ B) where
+        -- T, and each sum of its first terms
+        pub filtered-part≤ : (k m : ℕ) → k ≤ cells t → natAbs (sumTo k (λ n. kernel t n m *ℤ error t dots n)) ≤ M * M * B
+        filtered-part≤ k m h =
+            NatL.le-trans (weighted≤ k (λ n. kernel t n m) (error t dots) B (λ n. kernel-nonneg n m) errors)
+            (NatL.mul-le-mul-right B
+            (NatL.le-trans
+            (natAbs-below _ (total (t .psf) * total (t .psf)) (sum-nonneg k _ (λ n l. kernel-nonneg n m)) (kernels≤ k m h))
+            (NatL.mul-le-mul small small)))
+
+        pub filtered≤ : (m : ℕ) → natAbs (filteredError t dots m) ≤ M * M * B
+        unfolding filteredError
+        filtered≤ m = filtered-part≤ (cells t) m (NatL.le-refl (cells t))
+
+        pub squared≤ : natAbs (squaredError t dots) ≤ cells t * (B * (M * M * B))
+        unfolding squaredError
+        squared≤ =
+            natAbs-sum (cells t) _ (B * (M * M * B)) (λ m h. natAbs-mul-le (error t dots m) (filteredError t dots m) (errors m) (filtered≤ m))
+
+  -- an error is at most the largest gray and the largest dot, each by itself
+  pub error≤ : (B : ℕ) (dots : List ℕ) (n : ℕ) → t .step * getD dots n 0 ≤ B → getD (t .gray) n 0 ≤ B → natAbs (error t dots n) ≤ B
+  unfolding error
+  error≤ B dots n h k = apart (t .step * getD dots n 0) (getD (t .gray) n 0) h k
+    where
+      apart : (a b : ℕ) → a ≤ B → b ≤ B → natAbs (pos a -ℤ pos b) ≤ B
+      apart a b h k = natAbs-show (pos a ∷ pos b ∷ []) (pos a -ℤ pos b) (search reify depth 40) (omega arith) (omega arith)
