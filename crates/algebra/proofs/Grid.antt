@@ -16,3 +16,10 @@ rows-apart W h = rw NatL.suc-mul at (NatL.mul-le-mul-right W h)
 
 pub cell< : {y x H W : ℕ} → y < H → x < W → y * W + x < H * W
 cell< {W} h k = omega (arith, rows-apart W h)
+
+-- a cell's row and column
+pub row< : (m : ℕ) {H W : ℕ} → 0 < W → m < H * W → m / W < H
+row< m w h = NatL.div-lt-iff-lt-mul w .1 h
+
+pub column< : (m : ℕ) {W : ℕ} → 0 < W → m % W < W
+column< m w = NatL.mod-lt m w

@@ -1,7 +1,7 @@
 -- Laws of the general words: a tabulated list by its entries, and a square inside and outside.
 use mathlib.Core.Path.{_≡_, refl, sym, _∙_, ap, ap₂}
 use mathlib.Core.Bool.{Bool, true, false}
-use mathlib.Core.List.{List, [], _∷_, _++_}
+use mathlib.Core.List.{List, [], _∷_, _++_, map}
 use Prim.Native.Nat.{ℕ, zero, suc, _+_, _*_, _≤_, _<_}
 use native.Mathlib.Nat.{not-suc-le-zero}
 use native.Mathlib.Decide.{ℕ-discrete, decLt}
@@ -9,7 +9,7 @@ use native.Mathlib.Omega.{arith}
 use lib.Dec.{T, ltb, leb→le, ltb→lt, lt→ltb}
 use lib.IntN.{ℤ, pos, negsuc, negℤ, _+ℤ_, _-ℤ_}
 use lib.Signed.{_≤ℤ_, _<ℤ_}
-use lib.ListN.{length, getD, length-append, List·getD-append}
+use lib.ListN.{length, getD, length-append, List·getD-append, List·getD-map}
 use lib.Seq.{getD-at, ext-getD}
 use Rattle.algebra.proofs.Solver.{ring!, reify}
 use Rattle.algebra.proofs.Order.{show≤, show<, read<, read≡}
@@ -44,8 +44,13 @@ getD-tabulate (suc n) f i z h = go (ℕ-discrete i n) (getD-tabulate n f i z)
 pub tabulate-by {ℓ} : {A : Type ℓ} (z : A) (n : ℕ) (f : ℕ → A) (l : List A) → length l ≡ n
     → ((i : ℕ) → i < n → getD l i z ≡ f i) → l ≡ tabulate n f
 tabulate-by z n f l e h =
-    ext-getD z l (tabulate n f) (e ∙ (rw (length-tabulate n f) refl))
-    (λ i k. h i (rw e at k) ∙ (rw (getD-tabulate n f i z (rw e at k)) refl))
+    ext-getD z l (tabulate n f) (e ∙ sym (length-tabulate n f))
+    (λ i k. h i (rw e at k) ∙ sym (getD-tabulate n f i z (rw e at k)))
+
+pub tabulate-cong {ℓ} : {A : Type ℓ} (n : ℕ) {f g : ℕ → A} → ((i : ℕ) → i < n → f i ≡ g i) → tabulate n f ≡ tabulate n g
+unfolding tabulate
+tabulate-cong zero h = refl
+tabulate-cong (suc n) h = ap₂ (λ l x. l ++ (x ∷ [])) (tabulate-cong n (λ i k. h i (omega arith))) (h n (omega arith))
 
 -- ---- a square
 module _ {A : Type 0} (z : A) (n : ℕ) (l : List A) where
@@ -112,6 +117,27 @@ module _ {A : Type 0} (z : A) (r : ℕ) (l : List A) (dy dx : ℤ) where
       → squareAt z r l dy dx ≡ getD l (i * (2 * r + 1) + j) z
   unfolding squareAt
   square-inside i j e f h k = ap₂ (gridAt z (2 * r + 1) l) e f ∙ grid-inside z (2 * r + 1) l i j h k
+
+-- a square of images
+pub square-map : {A B : Type 0} (f : A → B) (z : A) (r : ℕ) (l : List A) (dy dx : ℤ)
+    → squareAt (f z) r (map f l) dy dx ≡ f (squareAt z r l dy dx)
+unfolding squareAt gridAt
+square-map {A} f z r l dy dx = go (dy +ℤ pos r) (dx +ℤ pos r)
+  where
+    n : ℕ
+    n = 2 * r + 1
+
+    chosen : (b : Bool) (x y : A) → pick b (f x) (f y) ≡ f (pick b x y)
+    chosen true x y = refl
+    chosen false x y = refl
+
+    go : (y x : ℤ) → gridAt (f z) (2 * r + 1) (map f l) y x ≡ f (gridAt z (2 * r + 1) l y x)
+    go (pos y) (pos x) =
+        ap (λ v. pick (ltb y n) (pick (ltb x n) v (f z)) (f z)) (List·getD-map f l (y * n + x) z)
+        ∙ ap (λ v. pick (ltb y n) v (f z)) (chosen (ltb x n) (getD l (y * n + x) z) z)
+        ∙ chosen (ltb y n) (pick (ltb x n) (getD l (y * n + x) z) z) z
+    go (pos y) (negsuc x) = refl
+    go (negsuc y) x = refl
 
 -- where an offset lies: before the square, after it, or at the place i counted from its edge
 pub data Place (r : ℕ) (d : ℤ) : Type 0 where

@@ -12,6 +12,7 @@ use Rattle.algebra.specs.Sum.{sumTo, sumFrom}
 use Rattle.algebra.specs.Quadratic.{transform, bilinear, quadratic}
 use Rattle.algebra.proofs.Solver.{ring!, reify}
 use Rattle.algebra.proofs.Order.{ordℤ, ≤ℤ-trans, 0≤-square, natAbs-show, natAbs-below, natAbs-mul-le}
+use Rattle.algebra.proofs.Grid.{row<, column<}
 use Rattle.algebra.proofs.Sum.{sum-cong}
 use Rattle.algebra.proofs.SumOrder.{sum-nonneg, sum-cells, sum-first≤, weighted≤, natAbs-sum}
 use Rattle.algebra.proofs.Interval.{sumFrom-cong, sumFrom-swap, sumFrom-nonneg, correlate-widened, Supported2}
@@ -45,12 +46,6 @@ module _ (t : Target) where
   kernel-nonneg n m = autocorrelation-nonneg (t .radius) (t .psf) (row t n -ℤ row t m) (column t n -ℤ column t m)
 
   module _ (wide : 0 < t .width) where
-    pub row< : (m : ℕ) → m < cells t → m / t .width < t .height
-    row< m h = NatL.div-lt-iff-lt-mul wide .1 h
-
-    pub column< : (m : ℕ) → m % t .width < t .width
-    column< m = NatL.mod-lt m wide
-
     -- over the widened plate, two cells' psfs overlap by the kernel between them
     overlap : (m n : ℕ) → m < cells t → n < cells t
         → sumFrom (negℤ (pos (t .radius))) (t .height + 2 * t .radius) (λ y.
@@ -59,9 +54,9 @@ module _ (t : Target) where
         ≡ kernel t m n
     unfolding kernel autocorrelation
     overlap m n h k =
-        sumFrom-cong o (t .height + 2 * r) (λ y. correlate-widened r (t .width) (m % t .width) (column t n) (p (y -ℤ row t m)) (p (y -ℤ row t n)) (column< m) (s .columns (y -ℤ row t m)))
+        sumFrom-cong o (t .height + 2 * r) (λ y. correlate-widened r (t .width) (m % t .width) (column t n) (p (y -ℤ row t m)) (p (y -ℤ row t n)) (column< m wide) (s .columns (y -ℤ row t m)))
         ∙ sumFrom-swap o o (t .height + 2 * r) (2 * r + 1) (λ y l. p (y -ℤ row t m) l *ℤ p (y -ℤ row t n) (l +ℤ (column t m -ℤ column t n)))
-        ∙ sumFrom-cong o (2 * r + 1) (λ l. correlate-widened r (t .height) (m / t .width) (row t n) (λ k. p k l) (λ k. p k (l +ℤ (column t m -ℤ column t n))) (row< m h) (s .rows l))
+        ∙ sumFrom-cong o (2 * r + 1) (λ l. correlate-widened r (t .height) (m / t .width) (row t n) (λ k. p k l) (λ k. p k (l +ℤ (column t m -ℤ column t n))) (row< m wide h) (s .rows l))
         ∙ sumFrom-swap o o (2 * r + 1) (2 * r + 1) (λ l k. p k l *ℤ p (k +ℤ (row t m -ℤ row t n)) (l +ℤ (column t m -ℤ column t n)))
       where
         r : ℕ

@@ -1,4 +1,5 @@
 pub mod Basic
 pub mod Psf
 pub mod Error
+pub mod Window
 pub mod Examples
