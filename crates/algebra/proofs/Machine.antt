@@ -21,12 +21,12 @@ fits-small w z p q = record { sfits = lt-of-le-of-lt (le-trans (mag-natAbs z) p)
 
 -- ---- where a local comes from
 -- an unsigned number that was cast
-pub of-cast : (w : Width) {n k : ℕ} → n ≤ k → k < 2 ^ hbits w → Holds w n (pos n) k
-of-cast w p q = record { value = toZ-pos w (lt-of-le-of-lt p q); size = p }
+pub of-cast : (w : Width) (n : ℕ) {k : ℕ} → n ≤ k → k < 2 ^ hbits w → Holds w n (pos n) k
+of-cast w n p q = record { value = toZ-pos w (lt-of-le-of-lt p q); size = p }
 
--- a literal: `literal w tt`
-pub literal : (w : Width) {n : ℕ} → T (ltb n (2 ^ hbits w)) → Holds w n (pos n) n
-literal w {n} t = of-cast w (le-refl n) (ltb→lt n (2 ^ hbits w) t)
+-- a literal: `literal w32 255 tt`
+pub literal : (w : Width) (n : ℕ) → T (ltb n (2 ^ hbits w)) → Holds w n (pos n) n
+literal w n t = of-cast w n (le-refl n) (ltb→lt n (2 ^ hbits w) t)
 
 -- a parameter, an element of a slice, a call's result
 pub of-small : (w : Width) (z : ℤ) {k : ℕ} → natAbs z ≤ k → k < 2 ^ hbits w → Holds w (ofZ w z) z k

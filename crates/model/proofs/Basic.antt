@@ -1,4 +1,4 @@
--- Laws of the general words: a tabulated list by its entries, and a square inside and outside.
+-- Laws of the general words: a choice, a list by its entries, a list that a loop fills, and a square inside and outside.
 use mathlib.Core.Path.{_≡_, refl, sym, _∙_, ap, ap₂}
 use mathlib.Core.Bool.{Bool, true, false}
 use mathlib.Core.List.{List, [], _∷_, _++_, map}
@@ -9,8 +9,8 @@ use native.Mathlib.Omega.{arith}
 use lib.Dec.{T, ltb, leb→le, ltb→lt, lt→ltb}
 use lib.IntN.{ℤ, pos, negsuc, negℤ, _+ℤ_, _-ℤ_}
 use lib.Signed.{_≤ℤ_, _<ℤ_}
-use lib.ListN.{length, getD, length-append, List·getD-append, List·getD-map}
-use lib.Seq.{getD-at, ext-getD}
+use lib.ListN.{length, getD, set, length-append, length-map, length-set, List·getD-append, List·getD-map}
+use lib.Seq.{getD-at, getD-set-same, getD-set-other, ext-getD}
 use Rattle.algebra.proofs.Solver.{ring!, reify}
 use Rattle.algebra.proofs.Order.{show≤, show<, read<, read≡}
 use Rattle.algebra.proofs.Interval.{Supported2}
@@ -51,6 +51,28 @@ pub tabulate-cong {ℓ} : {A : Type ℓ} (n : ℕ) {f g : ℕ → A} → ((i : �
 unfolding tabulate
 tabulate-cong zero h = refl
 tabulate-cong (suc n) h = ap₂ (λ l x. l ++ (x ∷ [])) (tabulate-cong n (λ i k. h i (omega arith))) (h n (omega arith))
+
+pub map-tabulate : {A B : Type 0} (f : A → B) (z : A) (l : List A) → map f l ≡ tabulate (length l) (λ i. f (getD l i z))
+map-tabulate f z l = tabulate-by (f z) (length l) _ (map f l) (length-map l f) (λ i h. List·getD-map f l i z)
+
+-- ---- a list that a loop fills from the front: of its n entries the first i are those of f
+pub record Filling {A : Type 0} (z : A) (f : ℕ → A) (n i : ℕ) (l : List A) : Type 0 where
+  pub long : length l ≡ n
+  pub each : (k : ℕ) → k < i → getD l k z ≡ f k
+
+module _ {A : Type 0} {z : A} {f : ℕ → A} {n : ℕ} where
+  pub fill-none : {l : List A} → length l ≡ n → Filling z f n 0 l
+  fill-none e = record { long = e; each = λ k h. absurd (not-suc-le-zero h) }
+
+  pub fill-next : {i : ℕ} {l : List A} {v : A} → Filling z f n i l → i < n → v ≡ f i → Filling z f n (i + 1) (set l i v)
+  fill-next {i} {l} {v} s h e = record { long = length-set l i v ∙ s .long; each = λ k q. go k q (ℕ-discrete k i) }
+    where
+      go : (k : ℕ) → k < i + 1 → Dec (k ≡ i) → getD (set l i v) k z ≡ f k
+      go k q (yes p) = rw p (getD-set-same l i v z (omega (arith, s .long)) ∙ e)
+      go k q (no p) = getD-set-other l i k v z p ∙ s .each k (omega arith)
+
+  pub fill-all : {i : ℕ} {l : List A} → Filling z f n i l → n ≤ i → l ≡ tabulate n f
+  fill-all {i} {l} s h = tabulate-by z n f l (s .long) (λ k q. s .each k (omega arith))
 
 -- ---- a square
 module _ {A : Type 0} (z : A) (n : ℕ) (l : List A) where

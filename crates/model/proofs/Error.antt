@@ -21,6 +21,10 @@ use Rattle.model.specs.Psf.{total, psfAt, autocorrelation}
 use Rattle.model.specs.Error.{Target, cells, row, column, kernel, error, filteredError, squaredError, perceivedError, perceivedSquares}
 use Rattle.model.proofs.Psf.{psf-supported, autocorrelation-even, autocorrelation-nonneg, autocorrelation-grid≤}
 
+-- a difference of two numbers from 0 to B
+pub apart : (a b : ℕ) {B : ℕ} → a ≤ B → b ≤ B → natAbs (pos a -ℤ pos b) ≤ B
+apart a b h k = natAbs-show (pos a ∷ pos b ∷ []) (pos a -ℤ pos b) (search reify depth 40) (omega arith) (omega arith)
+
 module _ (t : Target) where
   -- T and E are the transform and the quadratic form of the kernel, so the law of an edit is theirs
   pub filtered-transform : (dots : List ℕ) (m : ℕ) → filteredError t dots m ≡ transform (kernel t) (cells t) (error t dots) m
@@ -129,6 +133,3 @@ module _ (t : Target) where
   pub error≤ : (B : ℕ) (dots : List ℕ) (n : ℕ) → t .step * getD dots n 0 ≤ B → getD (t .gray) n 0 ≤ B → natAbs (error t dots n) ≤ B
   unfolding error
   error≤ B dots n h k = apart (t .step * getD dots n 0) (getD (t .gray) n 0) h k
-    where
-      apart : (a b : ℕ) → a ≤ B → b ≤ B → natAbs (pos a -ℤ pos b) ≤ B
-      apart a b h k = natAbs-show (pos a ∷ pos b ∷ []) (pos a -ℤ pos b) (search reify depth 40) (omega arith) (omega arith)

@@ -1,7 +1,7 @@
--- The few general words that the other definitions use: a choice, a list by its entries, an entry of a square.
+-- The few general words that the other definitions use: a choice, a list by its entries, its bound, an entry of a square.
 use mathlib.Core.Bool.{Bool, true, false}
 use mathlib.Core.List.{List, [], _∷_, _++_}
-use Prim.Native.Nat.{ℕ, zero, suc, _+_, _*_}
+use Prim.Native.Nat.{ℕ, zero, suc, _+_, _*_, _≤_}
 use lib.Dec.{ltb}
 use lib.IntN.{ℤ, pos, negsuc, _+ℤ_}
 use lib.ListN.{getD}
@@ -15,6 +15,10 @@ pick false a b = b
 unfoldable pub tabulate {ℓ} : {A : Type ℓ} → ℕ → (ℕ → A) → List A
 tabulate zero f = []
 tabulate (suc n) f = tabulate n f ++ (f n ∷ [])
+
+-- every entry is at most k
+pub record AtMost (k : ℕ) (l : List ℕ) : Type 0 where
+  pub each : (i : ℕ) → getD l i 0 ≤ k
 
 -- row y and column x of a square of n rows given row by row, and z outside it
 unfoldable pub gridAt : {A : Type 0} → A → ℕ → List A → ℤ → ℤ → A

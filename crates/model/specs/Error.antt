@@ -21,6 +21,10 @@ pub record Target : Type 0 where
 abbrev pub targetOf : ℕ → ℕ → ℕ → List ℕ → List ℕ → Target
 targetOf w h r psf gray = record { width = w; height = h; radius = r; psf = psf; gray = gray; step = 255 }
 
+-- the error of cell n: step × dot - gray
+abbrev pub errorOf : (step : ℕ) (gray dots : List ℕ) → ℕ → ℤ
+errorOf step gray dots n = pos step *ℤ pos (getD dots n 0) -ℤ pos (getD gray n 0)
+
 module _ (t : Target) where
   abbrev pub cells : ℕ
   cells = t .height * t .width
@@ -38,7 +42,7 @@ module _ (t : Target) where
   module _ (dots : List ℕ) where
     -- e(n) = 255 × dot - gray
     unfoldable pub error : ℕ → ℤ
-    error n = pos (t .step) *ℤ pos (getD dots n 0) -ℤ pos (getD (t .gray) n 0)
+    error n = errorOf (t .step) (t .gray) dots n
 
     -- T(m) = Σₙ c(n - m) × e(n), over all cells n
     unfoldable pub filteredError : ℕ → ℤ

@@ -1,0 +1,57 @@
+// The sums of document 01 over input that has been judged: the autocorrelation and the table, each built from zeros by one
+// window for each entry, and the squared error by one pass over the table.
+ghost use mathlib.Core.Path.{_≡_};
+ghost use mathlib.Core.List.{map};
+ghost use Prim.Native.Nat.{_<_, _≤_};
+ghost use lib.IntN.{pos, natAbs, _*ℤ_};
+ghost use lib.ListN.{length, getD};
+ghost use Rattle.algebra.specs.Sum.{sumTo};
+ghost use Rattle.model.specs.Basic.{tabulate, AtMost};
+ghost use Rattle.model.specs.Error.{errorOf};
+ghost use Rattle.model.specs.Window.{Small, mostFiltered};
+
+// every entry 0
+pub fn clear(table: &mut [i32])
+    ensures { λ _. ⌜ now (table .exit) ≡ tabulate (length (now (table .entry))) (λ q. pos 0) ⌝ }
+{
+    let mut i: usize = 0;
+    while i < table.len() {
+        table[i] = 0;
+        i += 1;
+    }
+}
+
+// the bytes as signed numbers
+pub fn widen(bytes: &[u8], out: &mut [i32])
+    requires { ⌜ length (now out) ≡ length (now bytes) ⌝ }
+    ensures { λ _. ⌜ now (out .exit) ≡ map pos (now (bytes .entry)) ⌝ }
+{
+    let mut i: usize = 0;
+    while i < bytes.len() {
+        out[i] = bytes[i] as i32;
+        i += 1;
+    }
+}
+
+// the error of a cell: 255 for a dot, less the gray
+pub fn error_at(gray: &[u8], dots: &[u8], n: usize) -> i32
+    requires { ⌜ (n < length (now gray)) × (n < length (now dots)) × (getD (now dots) n 0 ≤ 1) ⌝ }
+    ensures { λ r. ⌜ (r ≡ errorOf 255 (now (gray .entry)) (now (dots .entry)) n) × (natAbs r ≤ 255) ⌝ }
+{
+    255 * (dots[n] as i32) - (gray[n] as i32)
+}
+
+// Σ e(m) × T(m) over the cells, the T(m) being in the table
+pub fn weigh(gray: &[u8], dots: &[u8], table: &[i32]) -> i64
+    requires { ⌜ (length (now dots) ≡ length (now gray)) × (length (now table) ≡ length (now gray)) ⌝ }
+    requires { ⌜ (length (now gray) ≤ 65536) × AtMost 1 (now dots) × Small mostFiltered (now table) ⌝ }
+    ensures { λ r. ⌜ r ≡ sumTo (length (now (gray .entry))) (λ m. errorOf 255 (now (gray .entry)) (now (dots .entry)) m *ℤ getD (now (table .entry)) m (pos 0)) ⌝ }
+{
+    let mut sum: i64 = 0;
+    let mut m: usize = 0;
+    while m < table.len() {
+        sum += (error_at(gray, dots, m) as i64) * (table[m] as i64);
+        m += 1;
+    }
+    sum
+}
