@@ -5,14 +5,15 @@ use mathlib.Core.Logic.{_⊎_, inl, inr}
 use mathlib.Core.List.{List}
 use Prim.Native.Nat.{ℕ, _+_, _*_, _-_, _/_, _%_, _≤_, _<_, min}
 use native.Mathlib.Decide.{decLt}
-use lib.Dec.{lit<}
-use mir.Syntax.{w64}
-use mir.Val.{Fits}
-use native.Mathlib.Nat.{lt-of-le-of-lt, add-le-add, mul-le-mul, mul-le-mul-right, suc-mul, div-add-mod', div-lt-iff-lt-mul, mod-lt}
+use native.Mathlib.Nat.{lt-of-le-of-lt, add-le-add, mul-le-mul, mul-le-mul-right, suc-mul}
+use native.Mathlib.Nat.{div-add-mod', div-lt-iff-lt-mul, mod-lt}
 use native.Mathlib.Omega.{arith}
+use lib.Dec.{lit<}
 use lib.IntN.{ℤ, pos, _+ℤ_, _-ℤ_, _*ℤ_, +ℤ-idr, *ℤ-zero}
 use lib.ListN.{length, getD}
 use lib.Seq.{ext-getD}
+use mir.Syntax.{w64}
+use mir.Val.{Fits}
 use Rattle.model.specs.Basic.{squareAt}
 use Rattle.model.specs.Window.{addWindow}
 use Rattle.model.proofs.Basic.{length-tabulate, getD-tabulate, Far, squareAt-inside, squareAt-outside}
@@ -101,7 +102,7 @@ module _ (width reach row col : ℕ) (c : List ℤ) (amount : ℤ) where
             r .rest (v * width + x) (omega (arith, mul-le-mul-right width o)) ∙ untouched t₀ v x (inl (inr (omega arith)))
       ]
 
--- ---- where the run of a row stands
+-- ---- where the run of a row stands: its first index is small, and n entries from there end within the rows
 pub row-fits : (i n : ℕ) → i ≤ 262 → n ≤ 256 → Fits w64 (i * n)
 row-fits i n p q = record { fits = lt-of-le-of-lt (mul-le-mul p q) (lit< tt) }
 
