@@ -1,8 +1,9 @@
 -- Laws of the general words: a choice, a list by its entries, a list that a loop fills, and a square inside and outside.
 use mathlib.Core.Path.{_≡_, refl, sym, _∙_, ap, ap₂}
 use mathlib.Core.Bool.{Bool, true, false}
+use mathlib.Core.Logic.{_⊎_, inl, inr}
 use mathlib.Core.List.{List, [], _∷_, _++_, map}
-use Prim.Native.Nat.{ℕ, zero, suc, _+_, _*_, _≤_, _<_}
+use Prim.Native.Nat.{ℕ, zero, suc, _+_, _*_, _-_, _≤_, _<_}
 use native.Mathlib.Nat.{not-suc-le-zero}
 use native.Mathlib.Decide.{ℕ-discrete, decLt}
 use native.Mathlib.Omega.{arith}
@@ -12,7 +13,7 @@ use lib.Signed.{_≤ℤ_, _<ℤ_}
 use lib.ListN.{length, getD, set, length-append, length-map, length-set, List·getD-append, List·getD-map}
 use lib.Seq.{getD-at, getD-set-same, getD-set-other, ext-getD}
 use Rattle.algebra.proofs.Solver.{ring!, reify}
-use Rattle.algebra.proofs.Order.{show≤, show<, read<, read≡}
+use Rattle.algebra.proofs.Order.{show≤, show<, show≡, read<, read≡}
 use Rattle.algebra.proofs.Interval.{Supported2}
 use Rattle.model.specs.Basic.{pick, tabulate, gridAt, squareAt}
 
@@ -139,6 +140,34 @@ module _ {A : Type 0} (z : A) (r : ℕ) (l : List A) (dy dx : ℤ) where
       → squareAt z r l dy dx ≡ getD l (i * (2 * r + 1) + j) z
   unfolding squareAt
   square-inside i j e f h k = ap₂ (gridAt z (2 * r + 1) l) e f ∙ grid-inside z (2 * r + 1) l i j h k
+
+-- the same by the two cells (row, col) and (y, x) that the offset lies between
+abbrev pub Far : ℕ → ℕ → ℕ → Type 0
+Far r a y = (y + r < a) ⊎ (a + r < y)
+
+module _ {A : Type 0} (z : A) (r : ℕ) (l : List A) (row col y x : ℕ) where
+  pub squareAt-inside : row ≤ y + r → y ≤ row + r → col ≤ x + r → x ≤ col + r
+      → squareAt z r l (pos y -ℤ pos row) (pos x -ℤ pos col) ≡ getD l ((y + r - row) * (2 * r + 1) + (x + r - col)) z
+  squareAt-inside a b c d =
+      square-inside z r l _ _ (y + r - row) (x + r - col) (counted y row a) (counted x col c) (omega arith) (omega arith)
+    where
+      counted : (y a : ℕ) → a ≤ y + r → pos y -ℤ pos a +ℤ pos r ≡ pos (y + r - a)
+      counted y a h = show≡ (pos y ∷ pos a ∷ pos r ∷ pos (y + r - a) ∷ []) (search reify depth 40) (omega arith)
+
+  pub squareAt-outside : Far r row y ⊎ Far r col x → squareAt z r l (pos y -ℤ pos row) (pos x -ℤ pos col) ≡ z
+  squareAt-outside o = outside o
+    where
+      under : (y a : ℕ) → y + r < a → (pos y -ℤ pos a) <ℤ negℤ (pos r)
+      under y a h = show< (pos y ∷ pos a ∷ pos r ∷ []) (search reify depth 40) (omega arith)
+
+      past : (y a : ℕ) → a + r < y → pos r <ℤ (pos y -ℤ pos a)
+      past y a h = show< (pos y ∷ pos a ∷ pos r ∷ []) (search reify depth 40) (omega arith)
+
+      outside : Far r row y ⊎ Far r col x → squareAt z r l (pos y -ℤ pos row) (pos x -ℤ pos col) ≡ z
+      outside (inl (inl h)) = square-above z r l _ _ (under y row h)
+      outside (inl (inr h)) = square-below z r l _ _ (past y row h)
+      outside (inr (inl h)) = square-left z r l _ _ (under x col h)
+      outside (inr (inr h)) = square-right z r l _ _ (past x col h)
 
 -- a square of images
 pub square-map : {A B : Type 0} (f : A → B) (z : A) (r : ℕ) (l : List A) (dy dx : ℤ)
