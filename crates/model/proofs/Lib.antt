@@ -2,4 +2,5 @@ pub mod Basic
 pub mod Psf
 pub mod Error
 pub mod Window
+pub mod Refusal
 pub mod Examples

@@ -1,0 +1,137 @@
+// Judging what a call is handed: each function answers the number of the first refusal that is drawn, 0 for none.
+ghost use mathlib.Core.List.{[], _∷_};
+ghost use mathlib.Core.Path.{_≡_};
+ghost use Prim.Native.Nat.{_≤_};
+ghost use lib.ListN.{length};
+ghost use Rattle.model.specs.Psf.{total};
+ghost use Rattle.model.specs.Refusal.{firstOf, above, badSize, badRadius, badLength, badSum, badDot};
+ghost use Rattle.model.specs.Refusal.{autocorrelationRefusal, plateRefusal};
+
+// the sum of a few bytes
+fn sum(bytes: &[u8]) -> usize
+    requires { ⌜ length (now bytes) ≤ 49 ⌝ }
+    ensures { λ r. ⌜ r ≡ total (now (bytes .entry)) ⌝ }
+{
+    let mut sum: usize = 0;
+    let mut i = 0;
+    while i < bytes.len() {
+        sum += bytes[i] as usize;
+        i += 1;
+    }
+    sum
+}
+
+// whether a byte is above the limit
+fn any_above(limit: u8, bytes: &[u8]) -> bool
+    ensures { λ r. ⌜ r ≡ above limit (now (bytes .entry)) ⌝ }
+{
+    let mut i = 0;
+    while i < bytes.len() {
+        if limit < bytes[i] {
+            return true;
+        }
+        i += 1;
+    }
+    false
+}
+
+// 1 and 2
+pub fn judge_measures(width: usize, height: usize, radius: usize) -> u32
+    ensures { λ r. ⌜ r ≡ firstOf (badSize width height ∷ badRadius radius ∷ []) ⌝ }
+{
+    if width == 0 {
+        return 1;
+    }
+    if 256 < width {
+        return 1;
+    }
+    if height == 0 {
+        return 1;
+    }
+    if 256 < height {
+        return 1;
+    }
+    if 3 < radius {
+        return 2;
+    }
+    0
+}
+
+// 5 and 6, of a psf of radius at most 3 and of slices that should be as long as `cells`
+pub fn judge_slices(
+    radius: usize,
+    psf: &[u8],
+    cells: usize,
+    gray: usize,
+    dots: usize,
+    table: usize,
+) -> u32
+    requires { ⌜ radius ≤ 3 ⌝ }
+    ensures { λ r. ⌜ r ≡ firstOf
+        (badLength radius (now (psf .entry)) cells (gray ∷ dots ∷ table ∷ []) ∷ badSum (now (psf .entry)) ∷ []) ⌝ }
+{
+    let side = 2 * radius + 1;
+    if psf.len() != side * side {
+        return 5;
+    }
+    if gray != cells {
+        return 5;
+    }
+    if dots != cells {
+        return 5;
+    }
+    if table != cells {
+        return 5;
+    }
+    let total = sum(psf);
+    if total == 0 {
+        return 6;
+    }
+    if 1024 < total {
+        return 6;
+    }
+    0
+}
+
+// 7
+pub fn judge_dots(dots: &[u8]) -> u32
+    ensures { λ r. ⌜ r ≡ firstOf (badDot (now (dots .entry)) ∷ []) ⌝ }
+{
+    if any_above(1, dots) { 7 } else { 0 }
+}
+
+// the whole list of the filtered error, handed a table of that length
+pub fn judge_plate(
+    width: usize,
+    height: usize,
+    radius: usize,
+    psf: &[u8],
+    gray: &[u8],
+    dots: &[u8],
+    table: usize,
+) -> u32
+    ensures { λ r. ⌜ r ≡ plateRefusal width height radius
+        (now (psf .entry)) (now (gray .entry)) (now (dots .entry)) (table ∷ []) ⌝ }
+{
+    let measures = judge_measures(width, height, radius);
+    if measures != 0 {
+        return measures;
+    }
+    let slices = judge_slices(radius, psf, height * width, gray.len(), dots.len(), table);
+    let bytes = judge_dots(dots);
+    if slices != 0 {
+        return slices;
+    }
+    bytes
+}
+
+// the whole list of the autocorrelation, handed an output of that length
+pub fn judge_autocorrelation(radius: usize, psf: &[u8], out: usize) -> u32
+    ensures { λ r. ⌜ r ≡ autocorrelationRefusal radius (now (psf .entry)) out ⌝ }
+{
+    if 3 < radius {
+        return 2;
+    }
+    let side = 4 * radius + 1;
+    judge_slices(radius, psf, side * side, out, out, out)
+}

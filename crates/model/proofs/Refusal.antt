@@ -1,0 +1,147 @@
+-- The laws of the refusals: how the judge of a list is made of judges of its parts, and what a call that draws no refusal
+-- was handed (`plate-fits`, `psf-fits`).
+use mathlib.Core.Bool.{Bool, true, false, true≢false, not, _||_}
+use mathlib.Core.List.{List, [], _∷_, _++_}
+use mathlib.Core.Path.{_≡_, refl}
+use Prim.Native.Nat.{ℕ, zero, suc, _+_, _*_, _≤_}
+use native.Mathlib.Omega.{arith}
+use borrow.Author.Tests.{ltb-false, eqb-true, eqb-false, not-false}
+use lib.Dec.{T, ltb, eqb}
+use lib.ListN.{length, getD}
+use Rattle.model.specs.Psf.{total}
+use Rattle.model.specs.Refusal.{Refusal, _when_, firstOf, outside, differs, above}
+use Rattle.model.specs.Refusal.{badSize, badRadius, badLength, badSum, badDot, autocorrelationRefusal, plateRefusal}
+
+-- ---- the first of a list
+-- every number of the list is above 0
+abbrev pub numbered : List Refusal → Bool
+numbered [] = true
+numbered (zero when b ∷ l) = false
+numbered (suc n when b ∷ l) = numbered l
+
+-- no condition of the list holds
+abbrev pub None : List Refusal → Type 0
+None [] = Unit {0}
+None (n when b ∷ l) = (b ≡ false) × None l
+
+pub none : (l : List Refusal) {x : ℕ} → T (numbered l) → x ≡ firstOf l → x ≡ 0 → None l
+none [] t e z = tt
+none (zero when b ∷ l) t e z = absurd t
+none (suc n when true ∷ l) t e z = absurd (omega arith)
+none (suc n when false ∷ l) t e z = (refl, none l t e z)
+
+-- the first of two lists, by those of each
+pub first-here : (l k : List Refusal) {x : ℕ} → x ≡ firstOf l → (x ≡ 0 → ⊥) → x ≡ firstOf (l ++ k)
+first-here [] k e h = absurd (h e)
+first-here (n when true ∷ l) k e h = e
+first-here (n when false ∷ l) k e h = first-here l k e h
+
+pub first-past : (l k : List Refusal) {x : ℕ} → None l → x ≡ firstOf k → x ≡ firstOf (l ++ k)
+first-past [] k h e = e
+first-past (n when b ∷ l) k h e = rw (h .0) (first-past l k (h .1) e)
+
+-- ---- the conditions
+neither : (a b : Bool) → a || b ≡ false → (a ≡ false) × (b ≡ false)
+neither true b h = absurd (true≢false h)
+neither false b h = (refl, h)
+
+same : (m n : ℕ) → not (eqb m n) ≡ false → m ≡ n
+same m n h = eqb-true m n (not-false (eqb m n) h)
+
+inside : (k n : ℕ) → eqb n 0 || ltb k n ≡ false → (1 ≤ n) × (n ≤ k)
+inside k n h =
+    let (low, high) = neither (eqb n 0) (ltb k n) h in
+    (omega (arith, eqb-false n 0 low), ltb-false k n high)
+
+pub size-inside : (w h : ℕ) → outside w || outside h ≡ false → ((1 ≤ w) × (w ≤ 256)) × ((1 ≤ h) × (h ≤ 256))
+size-inside w h e =
+    let (wide, high) = neither (outside w) (outside h) e in
+    (inside 256 w wide, inside 256 h high)
+
+pub none-above : (k : ℕ) (l : List ℕ) → above k l ≡ false → (i : ℕ) → getD l i 0 ≤ k
+unfolding above
+none-above k [] h i = omega arith
+none-above k (x ∷ l) h zero = ltb-false k x (neither (ltb k x) (above k l) h .0)
+none-above k (x ∷ l) h (suc i) = none-above k l (neither (ltb k x) (above k l) h .1) i
+
+-- every length of the list is n
+abbrev Alike : ℕ → List ℕ → Type 0
+Alike n [] = Unit {0}
+Alike n (m ∷ l) = (m ≡ n) × Alike n l
+
+-- the first length is k, the others are n
+alike : (k n m : ℕ) (l : List ℕ) → not (eqb m k) || differs n l ≡ false → (m ≡ k) × Alike n l
+alike k n m [] h = (same m k (neither (not (eqb m k)) false h .0), tt)
+alike k n m (o ∷ l) h =
+    let (first, others) = neither (not (eqb m k)) (differs n (o ∷ l)) h in
+    (same m k first, alike n n o l others)
+
+again : (a b c : Bool) → a || (b || (a || c)) ≡ a || (b || c)
+again true b c = refl
+again false b c = refl
+
+-- the squared error, which is lent no table, is judged as if the gray slice were its table
+pub plate-again : (w h r : ℕ) (psf gray dots : List ℕ)
+    → plateRefusal w h r psf gray dots (length gray ∷ []) ≡ plateRefusal w h r psf gray dots []
+unfolding plateRefusal
+plate-again w h r psf gray dots = simp again
+
+-- ---- what a call was handed that draws no refusal
+-- the filtered error, handed a table of that length
+pub record PlateFits (w h r : ℕ) (psf gray dots : List ℕ) (table : ℕ) : Type 0 where
+  pub wide : (1 ≤ w) × (w ≤ 256)
+  pub high : (1 ≤ h) × (h ≤ 256)
+  pub near : r ≤ 3
+  pub square : length psf ≡ (2 * r + 1) * (2 * r + 1)
+  pub gray-length : length gray ≡ h * w
+  pub dots-length : length dots ≡ h * w
+  pub table-length : table ≡ h * w
+  pub sum-low : 1 ≤ total psf
+  pub sum-high : total psf ≤ 1024
+  pub bits : (i : ℕ) → getD dots i 0 ≤ 1
+
+pub plate-fits : (w h r : ℕ) (psf gray dots : List ℕ) (table : ℕ)
+    → plateRefusal w h r psf gray dots (table ∷ []) ≡ 0
+    → PlateFits w h r psf gray dots table
+unfolding plateRefusal
+plate-fits w h r psf gray dots table e =
+    let lengths : List ℕ = length gray ∷ length dots ∷ table ∷ [] in
+    let slices : List Refusal = badLength r psf (h * w) lengths ∷ badSum psf ∷ badDot dots ∷ [] in
+    let (size, (radius, (lent, (sum, (dot, _))))) = none (badSize w h ∷ badRadius r ∷ slices) tt refl e in
+    let (w-inside, h-inside) = size-inside w h size in
+    let (p-is, (g-is, (d-is, (t-is, _)))) = alike ((2 * r + 1) * (2 * r + 1)) (h * w) (length psf) lengths lent in
+    record {
+      wide = w-inside;
+      high = h-inside;
+      near = ltb-false 3 r radius;
+      square = p-is;
+      gray-length = g-is;
+      dots-length = d-is;
+      table-length = t-is;
+      sum-low = inside 1024 (total psf) sum .0;
+      sum-high = inside 1024 (total psf) sum .1;
+      bits = none-above 1 dots dot;
+    }
+
+-- the autocorrelation, handed an output of that length
+pub record PsfFits (r : ℕ) (psf : List ℕ) (out : ℕ) : Type 0 where
+  pub near : r ≤ 3
+  pub square : length psf ≡ (2 * r + 1) * (2 * r + 1)
+  pub out-length : out ≡ (4 * r + 1) * (4 * r + 1)
+  pub sum-low : 1 ≤ total psf
+  pub sum-high : total psf ≤ 1024
+
+pub psf-fits : (r : ℕ) (psf : List ℕ) (out : ℕ) → autocorrelationRefusal r psf out ≡ 0 → PsfFits r psf out
+unfolding autocorrelationRefusal
+psf-fits r psf out e =
+    let cells : ℕ = (4 * r + 1) * (4 * r + 1) in
+    let slices : List Refusal = badLength r psf cells (out ∷ []) ∷ badSum psf ∷ [] in
+    let (radius, (lent, (sum, _))) = none (badRadius r ∷ slices) tt refl e in
+    let (p-is, (o-is, _)) = alike ((2 * r + 1) * (2 * r + 1)) cells (length psf) (out ∷ []) lent in
+    record {
+      near = ltb-false 3 r radius;
+      square = p-is;
+      out-length = o-is;
+      sum-low = inside 1024 (total psf) sum .0;
+      sum-high = inside 1024 (total psf) sum .1;
+    }
