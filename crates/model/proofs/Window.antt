@@ -1,24 +1,26 @@
 -- Laws of the window update: what it makes of a tabulated table, the table that a list of sources leaves when a window is
 -- added for each, and sizes.
 use mathlib.Core.Path.{_≡_, refl, sym, _∙_, ap, ap₂, subst}
+use mathlib.Core.Bool.{Bool, true, false}
 use mathlib.Core.List.{List, [], _∷_, map}
 use Prim.Native.Nat.{ℕ, zero, suc, _+_, _*_, _-_, _/_, _%_, _≤_, _<_}
 use native.Mathlib.Nat as NatL
 use native.Mathlib.Decide.{decLt}
 use native.Mathlib.Omega.{arith}
 use native.Mathlib.Numerals.{add-one}
-use lib.IntN.{ℤ, pos, negℤ, natAbs, _+ℤ_, _-ℤ_, _*ℤ_, *ℤ-comm}
-use lib.ListN.{length, getD, List·getD-eq-default}
+use lib.Dec.{ltb}
+use lib.IntN.{ℤ, pos, negsuc, negℤ, natAbs, _+ℤ_, _-ℤ_, _*ℤ_, *ℤ-comm}
+use lib.ListN.{length, getD, List·getD-eq-default, List·getD-map}
 use Rattle.algebra.specs.Sum.{sumTo, sumFrom}
 use Rattle.algebra.proofs.Solver.{ring!, reify}
 use Rattle.algebra.proofs.Order.{natAbs-mul-le, show≡}
 use Rattle.algebra.proofs.Grid.{row<, column<}
 use Rattle.algebra.proofs.Sum.{sumTo-suc, sum-cong}
 use Rattle.algebra.proofs.SumOrder.{sum-cells}
-use Rattle.model.specs.Basic.{tabulate, squareAt}
+use Rattle.model.specs.Basic.{pick, tabulate, gridAt, squareAt}
 use Rattle.model.specs.Psf.{psfAt, autocorrelation, autocorrelations}
 use Rattle.model.specs.Error.{Target, row, column, kernel, error}
-use Rattle.model.specs.Window.{addWindow, Small, Scaled}
+use Rattle.model.specs.Window.{gain, addWindow, scattered, Small, Scaled}
 use Rattle.model.proofs.Basic.{length-tabulate, getD-tabulate, tabulate-cong, square-map, square-inside}
 use Rattle.model.proofs.Psf.{autocorrelations-at}
 use Rattle.model.proofs.Error.{kernel-symmetric}
@@ -34,36 +36,48 @@ small-tabulate k n f h = record { each = λ q. go q (decLt q n) }
 pub scaled-by : {j k m : ℕ} (a : ℤ) (l : List ℤ) → natAbs a ≤ j → Small k l → j * k ≤ m → Scaled m a l
 scaled-by a l p s h = record { each = λ q. NatL.le-trans (natAbs-mul-le a (getD l q (pos 0)) p (s .each q)) h }
 
--- ---- one window
-module _ (W R : ℕ) (c : List ℤ) where
-  -- what the cell q gains from a window at (row, col), for each unit of the amount
-  abbrev pub gain : ℕ → ℕ → ℕ → ℤ
-  gain row col q = squareAt (pos 0) R c (pos (q / W) -ℤ pos row) (pos (q % W) -ℤ pos col)
+-- and so is a square of small entries at every offset
+pub square-small : {k : ℕ} (r : ℕ) (l : List ℤ) (dy dx : ℤ) → Small k l → natAbs (squareAt (pos 0) r l dy dx) ≤ k
+unfolding squareAt gridAt
+square-small {k} r l dy dx s = go (dy +ℤ pos r) (dx +ℤ pos r)
+  where
+    chosen : (b : Bool) (z : ℤ) → natAbs z ≤ k → natAbs (pick b z (pos 0)) ≤ k
+    chosen true z h = h
+    chosen false z h = omega arith
 
+    go : (y x : ℤ) → natAbs (gridAt (pos 0) (2 * r + 1) l y x) ≤ k
+    go (pos y) (pos x) = chosen (ltb y (2 * r + 1)) _ (chosen (ltb x (2 * r + 1)) _ (s .each (y * (2 * r + 1) + x)))
+    go (pos y) (negsuc x) = omega arith
+    go (negsuc y) x = omega arith
+
+-- ---- one window more
+module _ (W R : ℕ) (c : List ℤ) where
   pub addWindow-tabulate : (N : ℕ) (f : ℕ → ℤ) (amount : ℤ) (row col : ℕ)
-      → addWindow W R c amount row col (tabulate N f) ≡ tabulate N (λ q. f q +ℤ amount *ℤ gain row col q)
+      → addWindow W R c amount row col (tabulate N f) ≡ tabulate N (λ q. f q +ℤ amount *ℤ gain W R c row col q)
   unfolding addWindow
   addWindow-tabulate N f amount row col =
-      ap (λ n. tabulate n (λ q. getD (tabulate N f) q (pos 0) +ℤ amount *ℤ gain row col q)) (length-tabulate N f)
-      ∙ tabulate-cong N (λ q h. ap (λ z. z +ℤ amount *ℤ gain row col q) (getD-tabulate N f q (pos 0) h))
+      ap (λ n. tabulate n (λ q. getD (tabulate N f) q (pos 0) +ℤ amount *ℤ gain W R c row col q)) (length-tabulate N f)
+      ∙ tabulate-cong N (λ q h. ap (λ z. z +ℤ amount *ℤ gain W R c row col q) (getD-tabulate N f q (pos 0) h))
 
-  -- ---- a window for each of the sources 0 .. n - 1, with their amounts and places
   module _ (amount : ℕ → ℤ) (row col : ℕ → ℕ) where
-    abbrev pub scattered : ℕ → ℕ → ℤ
-    scattered n q = sumTo n (λ i. amount i *ℤ gain (row i) (col i) q)
+    pub scattered-none : (N : ℕ) → tabulate N (λ q. pos 0) ≡ tabulate N (scattered W R c amount row col 0)
+    unfolding scattered sumTo
+    scattered-none N = refl
 
-    pub scatter-next : (N n : ℕ)
-        → addWindow W R c (amount n) (row n) (col n) (tabulate N (scattered n)) ≡ tabulate N (scattered (n + 1))
-    scatter-next N n =
-        addWindow-tabulate N (scattered n) (amount n) (row n) (col n)
-        ∙ tabulate-cong N (λ q h. rw add-one (sym (sumTo-suc n (λ i. amount i *ℤ gain (row i) (col i) q))))
+    pub scattered-next : (N n : ℕ)
+        → addWindow W R c (amount n) (row n) (col n) (tabulate N (scattered W R c amount row col n))
+        ≡ tabulate N (scattered W R c amount row col (n + 1))
+    unfolding scattered
+    scattered-next N n =
+        addWindow-tabulate N (scattered W R c amount row col n) (amount n) (row n) (col n)
+        ∙ tabulate-cong N (λ q h. rw add-one (sym (sumTo-suc n (λ i. amount i *ℤ gain W R c (row i) (col i) q))))
 
 -- ---- the table: a window of the autocorrelation for each cell, times its error
 module _ (t : Target) (dots : List ℕ) where
   pub windows-filtered : (n q : ℕ)
       → scattered (t .width) (2 * t .radius) (autocorrelations (t .radius) (t .psf)) (error t dots) (λ i. i / t .width) (λ i. i % t .width) n q
       ≡ sumTo n (λ i. kernel t i q *ℤ error t dots i)
-  unfolding kernel
+  unfolding kernel scattered
   windows-filtered n q = sum-cong n (λ i h. ap (λ z. error t dots i *ℤ z) (at i) ∙ *ℤ-comm (error t dots i) (kernel t i q))
     where
       at : (i : ℕ) → gain (t .width) (2 * t .radius) (autocorrelations (t .radius) (t .psf)) (i / t .width) (i % t .width) q ≡ kernel t i q
@@ -72,11 +86,11 @@ module _ (t : Target) (dots : List ℕ) where
 -- ---- the autocorrelation: a window of the psf for each of its entries, times that entry, at its mirrored place
 module _ (r : ℕ) (psf : List ℕ) where
   pub windows-autocorrelation : length psf ≡ (2 * r + 1) * (2 * r + 1) → (q : ℕ)
-      → scattered (4 * r + 1) r (map pos psf) (λ i. pos (getD psf i 0)) (λ i. 3 * r - i / (2 * r + 1)) (λ i. 3 * r - i % (2 * r + 1)) (length psf) q
+      → scattered (4 * r + 1) r (map pos psf) (λ i. getD (map pos psf) i (pos 0)) (λ i. 3 * r - i / (2 * r + 1)) (λ i. 3 * r - i % (2 * r + 1)) (length psf) q
       ≡ autocorrelation r psf (pos (q / (4 * r + 1)) -ℤ pos (2 * r)) (pos (q % (4 * r + 1)) -ℤ pos (2 * r))
-  unfolding psfAt autocorrelation sumFrom
+  unfolding psfAt autocorrelation sumFrom scattered
   windows-autocorrelation e q =
-      ap (λ n. scattered (4 * r + 1) r (map pos psf) (λ i. pos (getD psf i 0)) (λ i. 3 * r - i / s) (λ i. 3 * r - i % s) n q) e
+      ap (λ n. scattered (4 * r + 1) r (map pos psf) (λ i. getD (map pos psf) i (pos 0)) (λ i. 3 * r - i / s) (λ i. 3 * r - i % s) n q) e
       ∙ sum-cong (s * s) (λ i h. ap₂ (λ a b. a *ℤ b) (first i h) (second i h))
       ∙ sum-cells s s (λ y x. psfAt r psf (at y) (at x) *ℤ psfAt r psf (at y +ℤ dy) (at x +ℤ dx))
     where
@@ -98,9 +112,10 @@ module _ (r : ℕ) (psf : List ℕ) where
       some : 0 < 2 * r + 1
       some = omega arith
 
-      first : (i : ℕ) → i < s * s → pos (getD psf i 0) ≡ psfAt r psf (at (i / s)) (at (i % s))
+      first : (i : ℕ) → i < s * s → getD (map pos psf) i (pos 0) ≡ psfAt r psf (at (i / s)) (at (i % s))
       first i h =
-          ap pos (sym (square-inside 0 r psf (at (i / s)) (at (i % s)) (i / s) (i % s) (back (i / s)) (back (i % s)) (row< i some h) (column< i some)
+          List·getD-map pos psf i 0
+          ∙ ap pos (sym (square-inside 0 r psf (at (i / s)) (at (i % s)) (i / s) (i % s) (back (i / s)) (back (i % s)) (row< i some h) (column< i some)
           ∙ ap (λ k. getD psf k 0) (NatL.div-add-mod' i s)))
 
       offset : (k y : ℕ) → y ≤ 3 * r → pos k -ℤ pos (3 * r - y) ≡ negℤ (pos r) +ℤ pos y +ℤ (pos k -ℤ pos (2 * r))

@@ -1,15 +1,23 @@
--- The window update: what adding a kernel, times an amount, around one cell does to a table.
+-- The window update: what adding a kernel, times an amount, around one cell does to a table, and many of them one by one.
 use mathlib.Core.List.{List}
 use Prim.Native.Nat.{ℕ, _/_, _%_, _≤_}
 use lib.IntN.{ℤ, pos, natAbs, _+ℤ_, _-ℤ_, _*ℤ_}
 use lib.ListN.{length, getD}
+use Rattle.algebra.specs.Sum.{sumTo}
 use Rattle.model.specs.Basic.{tabulate, squareAt}
 
--- every cell q of a table of that width gains amount × c(q - m), where m stands at (row, col) and c is a square of reach R
-unfoldable pub addWindow : (width R : ℕ) (c : List ℤ) (amount : ℤ) (row col : ℕ) → List ℤ → List ℤ
-addWindow width R c amount row col t =
-    tabulate (length t) (λ q.
-    getD t q (pos 0) +ℤ amount *ℤ squareAt (pos 0) R c (pos (q / width) -ℤ pos row) (pos (q % width) -ℤ pos col))
+module _ (width R : ℕ) (c : List ℤ) where
+  -- c(q - m), where m stands at (row, col) and c is a square of reach R
+  abbrev pub gain : (row col q : ℕ) → ℤ
+  gain row col q = squareAt (pos 0) R c (pos (q / width) -ℤ pos row) (pos (q % width) -ℤ pos col)
+
+  -- every cell q of the table gains amount × c(q - m)
+  unfoldable pub addWindow : (amount : ℤ) (row col : ℕ) → List ℤ → List ℤ
+  addWindow amount row col t = tabulate (length t) (λ q. getD t q (pos 0) +ℤ amount *ℤ gain row col q)
+
+  -- what the windows of the sources 0 .. n - 1, each with its amount and its place, come to at the cell q
+  unfoldable pub scattered : (amount : ℕ → ℤ) (row col : ℕ → ℕ) (n q : ℕ) → ℤ
+  scattered amount row col n q = sumTo n (λ i. amount i *ℤ gain (row i) (col i) q)
 
 -- every entry is at most k from 0
 pub record Small (k : ℕ) (l : List ℤ) : Type 0 where

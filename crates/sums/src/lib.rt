@@ -2,13 +2,15 @@
 // window for each entry, and the squared error by one pass over the table.
 ghost use mathlib.Core.Path.{_≡_};
 ghost use mathlib.Core.List.{map};
-ghost use Prim.Native.Nat.{_<_, _≤_};
+ghost use Prim.Native.Nat.{_+_, _*_, _<_, _≤_};
 ghost use lib.IntN.{pos, natAbs, _*ℤ_};
 ghost use lib.ListN.{length, getD};
 ghost use Rattle.algebra.specs.Sum.{sumTo};
 ghost use Rattle.model.specs.Basic.{tabulate, AtMost};
 ghost use Rattle.model.specs.Error.{errorOf};
 ghost use Rattle.model.specs.Window.{Small, mostFiltered};
+ghost use Rattle.sums.specs.Scatter.{mirrored, laid, Steady};
+use window::add_window;
 
 // every entry 0
 pub fn clear(table: &mut [i32])
@@ -39,6 +41,53 @@ pub fn error_at(gray: &[u8], dots: &[u8], n: usize) -> i32
     ensures { λ r. ⌜ (r ≡ errorOf 255 (now (gray .entry)) (now (dots .entry)) n) × (natAbs r ≤ 255) ⌝ }
 {
     255 * (dots[n] as i32) - (gray[n] as i32)
+}
+
+// The windows of p with each of its own entries, laid at the mirrored place of that entry: Σₖ p(k) × p(k + d) at each d.
+pub fn correlate(radius: usize, p: &[i32], out: &mut [i32])
+    requires { ⌜ (radius ≤ 3) × (length (now p) ≡ (2 * radius + 1) * (2 * radius + 1)) × Small 255 (now p) ⌝ }
+    requires { ⌜ length (now out) ≡ (4 * radius + 1) * (4 * radius + 1) ⌝ }
+    ensures { λ _. ⌜ now (out .exit) ≡ mirrored radius (now (p .entry)) ⌝ }
+{
+    clear(out);
+    let side = 2 * radius + 1;
+    let width = 4 * radius + 1;
+    let middle = 3 * radius;
+    let mut i: usize = 0;
+    while i < p.len() {
+        let row = middle - i / side;
+        let col = middle - i % side;
+        let amount = p[i];
+        add_window(out, width, width, row, col, radius, p, amount);
+        i += 1;
+    }
+}
+
+// The windows of c with each cell's error, laid around that cell: Σₙ e(n) × c(q - n) at each cell q.
+pub fn lay(
+    width: usize,
+    height: usize,
+    radius: usize,
+    c: &[i32],
+    gray: &[u8],
+    dots: &[u8],
+    table: &mut [i32],
+)
+    requires { ⌜ (0 < width) × (width ≤ 256) × (height ≤ 256) × (radius ≤ 3) ⌝ }
+    requires { ⌜ (length (now c) ≡ (4 * radius + 1) * (4 * radius + 1)) × Small 1048576 (now c) ⌝ }
+    requires { ⌜ (length (now gray) ≡ height * width) × (length (now dots) ≡ height * width) × (length (now table) ≡ height * width) ⌝ }
+    requires { ⌜ AtMost 1 (now dots) × Steady width height radius (now c) (now gray) (now dots) ⌝ }
+    ensures { λ _. ⌜ now (table .exit) ≡ laid width height radius (now (c .entry)) (now (gray .entry)) (now (dots .entry)) ⌝ }
+{
+    clear(table);
+    let mut n: usize = 0;
+    while n < gray.len() {
+        let row = n / width;
+        let col = n % width;
+        let amount = error_at(gray, dots, n);
+        add_window(table, width, height, row, col, 2 * radius, c, amount);
+        n += 1;
+    }
 }
 
 // Σ e(m) × T(m) over the cells, the T(m) being in the table
