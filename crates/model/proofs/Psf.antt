@@ -16,7 +16,7 @@ use Rattle.algebra.proofs.SumOrder.{sum-nonneg, sum-grid}
 use Rattle.algebra.proofs.Interval.{sumFrom-cong, sumFrom-swap, sumFrom-swap2, sumFrom-scale, sumFrom-one, sumFrom-shift, sumFrom-nonneg, correlate-turn, Supported2, grid≤, grid-whole}
 use Rattle.model.specs.Basic.{squareAt}
 use Rattle.model.specs.Psf.{total, psfAt, autocorrelation, autocorrelations}
-use Rattle.model.proofs.Basic.{square-above, square-below, square-left, square-right, square-inside, square-by, getD-tabulate}
+use Rattle.model.proofs.Basic.{square-above, square-below, square-left, square-right, square-inside, square-by, length-tabulate, getD-tabulate}
 
 -- the sum of a list, entry by entry
 pub total-sum : (l : List ℕ) → sumTo (length l) (λ n. pos (getD l n 0)) ≡ pos (total l)
@@ -195,6 +195,10 @@ module _ (r : ℕ) (psf : List ℕ) where
         subst (λ z. z ≤ℤ (pos (total psf) *ℤ pos (total psf)))
         (sumFrom-one dy (λ y. sumFrom dx 1 (autocorrelation r psf y)) ∙ sumFrom-one dx (autocorrelation r psf dy))
         (autocorrelation-grid≤ 1 1 dy dx)
+
+  pub autocorrelations-long : length (autocorrelations r psf) ≡ (4 * r + 1) * (4 * r + 1)
+  unfolding autocorrelations
+  autocorrelations-long = length-tabulate ((4 * r + 1) * (4 * r + 1)) _
 
   -- the list of its values is a square of reach 2r that holds c at every offset
   pub autocorrelations-at : (dy dx : ℤ) → squareAt (pos 0) (2 * r) (autocorrelations r psf) dy dx ≡ autocorrelation r psf dy dx

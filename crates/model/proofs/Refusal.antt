@@ -1,5 +1,5 @@
 -- The laws of the refusals: how the judge of a list is made of judges of its parts, and what a call that draws no refusal
--- was handed (`plate-fits`, `psf-fits`).
+-- was handed (`plate-fits`, `autocorrelation-fits`).
 use mathlib.Core.Bool.{Bool, true, false, true≢false, not, _||_}
 use mathlib.Core.List.{List, [], _∷_, _++_}
 use mathlib.Core.Path.{_≡_, refl}
@@ -10,7 +10,7 @@ use lib.Dec.{T, ltb, eqb}
 use lib.ListN.{length, getD}
 use Rattle.model.specs.Psf.{total}
 use Rattle.model.specs.Refusal.{Refusal, _when_, firstOf, outside, differs, above}
-use Rattle.model.specs.Refusal.{badSize, badRadius, badLength, badSum, badDot, autocorrelationRefusal, plateRefusal}
+use Rattle.model.specs.Refusal.{badSize, badRadius, badLength, badSum, badDot, autocorrelationRefusal, plateRefusal, PsfFits, PlateFits}
 
 -- ---- the first of a list
 -- every number of the list is above 0
@@ -87,19 +87,24 @@ unfolding plateRefusal
 plate-again w h r psf gray dots = simp again
 
 -- ---- what a call was handed that draws no refusal
--- the filtered error, handed a table of that length
-pub record PlateFits (w h r : ℕ) (psf gray dots : List ℕ) (table : ℕ) : Type 0 where
-  pub wide : (1 ≤ w) × (w ≤ 256)
-  pub high : (1 ≤ h) × (h ≤ 256)
-  pub near : r ≤ 3
-  pub square : length psf ≡ (2 * r + 1) * (2 * r + 1)
-  pub gray-length : length gray ≡ h * w
-  pub dots-length : length dots ≡ h * w
-  pub table-length : table ≡ h * w
-  pub sum-low : 1 ≤ total psf
-  pub sum-high : total psf ≤ 1024
-  pub bits : (i : ℕ) → getD dots i 0 ≤ 1
+psf-by : (r : ℕ) (psf : List ℕ) → ltb 3 r ≡ false → length psf ≡ (2 * r + 1) * (2 * r + 1)
+    → eqb (total psf) 0 || ltb 1024 (total psf) ≡ false → PsfFits r psf
+psf-by r psf radius square sum =
+    let (low, high) = inside 1024 (total psf) sum in
+    record { near = ltb-false 3 r radius; square = square; sum-low = low; sum-high = high }
 
+-- the autocorrelation, handed an output of that length
+pub autocorrelation-fits : (r : ℕ) (psf : List ℕ) (out : ℕ) → autocorrelationRefusal r psf out ≡ 0
+    → PsfFits r psf × (out ≡ (4 * r + 1) * (4 * r + 1))
+unfolding autocorrelationRefusal
+autocorrelation-fits r psf out e =
+    let cells : ℕ = (4 * r + 1) * (4 * r + 1) in
+    let slices : List Refusal = badLength r psf cells (out ∷ []) ∷ badSum psf ∷ [] in
+    let (radius, (lent, (sum, _))) = none (badRadius r ∷ slices) tt refl e in
+    let (p-is, (o-is, _)) = alike ((2 * r + 1) * (2 * r + 1)) cells (length psf) (out ∷ []) lent in
+    (psf-by r psf radius p-is sum, o-is)
+
+-- the filtered error, handed a table of that length
 pub plate-fits : (w h r : ℕ) (psf gray dots : List ℕ) (table : ℕ)
     → plateRefusal w h r psf gray dots (table ∷ []) ≡ 0
     → PlateFits w h r psf gray dots table
@@ -113,35 +118,9 @@ plate-fits w h r psf gray dots table e =
     record {
       wide = w-inside;
       high = h-inside;
-      near = ltb-false 3 r radius;
-      square = p-is;
+      psf-fits = psf-by r psf radius p-is sum;
       gray-length = g-is;
       dots-length = d-is;
       table-length = t-is;
-      sum-low = inside 1024 (total psf) sum .0;
-      sum-high = inside 1024 (total psf) sum .1;
-      bits = none-above 1 dots dot;
-    }
-
--- the autocorrelation, handed an output of that length
-pub record PsfFits (r : ℕ) (psf : List ℕ) (out : ℕ) : Type 0 where
-  pub near : r ≤ 3
-  pub square : length psf ≡ (2 * r + 1) * (2 * r + 1)
-  pub out-length : out ≡ (4 * r + 1) * (4 * r + 1)
-  pub sum-low : 1 ≤ total psf
-  pub sum-high : total psf ≤ 1024
-
-pub psf-fits : (r : ℕ) (psf : List ℕ) (out : ℕ) → autocorrelationRefusal r psf out ≡ 0 → PsfFits r psf out
-unfolding autocorrelationRefusal
-psf-fits r psf out e =
-    let cells : ℕ = (4 * r + 1) * (4 * r + 1) in
-    let slices : List Refusal = badLength r psf cells (out ∷ []) ∷ badSum psf ∷ [] in
-    let (radius, (lent, (sum, _))) = none (badRadius r ∷ slices) tt refl e in
-    let (p-is, (o-is, _)) = alike ((2 * r + 1) * (2 * r + 1)) cells (length psf) (out ∷ []) lent in
-    record {
-      near = ltb-false 3 r radius;
-      square = p-is;
-      out-length = o-is;
-      sum-low = inside 1024 (total psf) sum .0;
-      sum-high = inside 1024 (total psf) sum .1;
+      bits = record { each = none-above 1 dots dot };
     }

@@ -33,6 +33,9 @@ small-tabulate k n f h = record { each = λ q. go q (decLt q n) }
     go q (yes l) = rw (getD-tabulate n f q (pos 0) l) (h q l)
     go q (no l) = rw (List·getD-eq-default (tabulate n f) (pos 0) {n = q} (rw (length-tabulate n f) (omega arith))) (omega arith)
 
+pub small-bytes : {k : ℕ} (l : List ℕ) → ((i : ℕ) → getD l i 0 ≤ k) → Small k (map pos l)
+small-bytes {k} l h = record { each = λ q. subst (λ (z : ℤ). natAbs z ≤ k) (sym (List·getD-map pos l q 0)) (h q) }
+
 pub scaled-by : {j k m : ℕ} (a : ℤ) (l : List ℤ) → natAbs a ≤ j → Small k l → j * k ≤ m → Scaled m a l
 scaled-by a l p s h = record { each = λ q. NatL.le-trans (natAbs-mul-le a (getD l q (pos 0)) p (s .each q)) h }
 

@@ -2,9 +2,11 @@
 -- of the first in its list whose condition holds.
 use mathlib.Core.Bool.{Bool, true, false, _||_, not}
 use mathlib.Core.List.{List, [], _∷_}
-use Prim.Native.Nat.{ℕ, _+_, _*_}
+use mathlib.Core.Path.{_≡_}
+use Prim.Native.Nat.{ℕ, _+_, _*_, _≤_}
 use lib.Dec.{ltb, eqb}
 use lib.ListN.{length}
+use Rattle.model.specs.Basic.{AtMost}
 use Rattle.model.specs.Psf.{total}
 
 infix 70 _when_
@@ -70,3 +72,19 @@ plateRefusal width height radius psf gray dots others =
     ∷ badSum psf
     ∷ badDot dots
     ∷ [])
+
+-- ---- what a call was handed that nothing refused
+pub record PsfFits (r : ℕ) (psf : List ℕ) : Type 0 where
+  pub near : r ≤ 3
+  pub square : length psf ≡ (2 * r + 1) * (2 * r + 1)
+  pub sum-low : 1 ≤ total psf
+  pub sum-high : total psf ≤ 1024
+
+pub record PlateFits (w h r : ℕ) (psf gray dots : List ℕ) (table : ℕ) : Type 0 where
+  pub wide : (1 ≤ w) × (w ≤ 256)
+  pub high : (1 ≤ h) × (h ≤ 256)
+  pub psf-fits : PsfFits r psf
+  pub gray-length : length gray ≡ h * w
+  pub dots-length : length dots ≡ h * w
+  pub table-length : table ≡ h * w
+  pub bits : AtMost 1 dots

@@ -1,18 +1,26 @@
--- What a turn of a loop that adds windows asks of the table and leaves of it, where the table is known by its entries.
+-- What a turn of a loop that adds windows asks of the table and leaves of it, where the table is known by its entries;
+-- and what the two tables built so are: the autocorrelation and the filtered error.
 use mathlib.Core.Path.{_≡_, sym, _∙_, ap, ap₂, subst}
-use mathlib.Core.List.{List}
+use mathlib.Core.List.{List, map}
 use Prim.Native.Nat.{ℕ, _+_, _*_, _≤_}
 use native.Mathlib.Nat as NatL
 use native.Mathlib.Omega.{arith}
-use lib.IntN.{ℤ, pos, natAbs}
-use lib.ListN.{length, getD}
-use Rattle.algebra.proofs.Order.{natAbs-mul-le}
+use lib.IntN.{ℤ, pos, natAbs, _*ℤ_}
+use lib.ListN.{length, getD, take, length-map}
+use lib.Seq.{length-take-le}
+use Rattle.algebra.specs.Sum.{sumTo}
+use Rattle.algebra.proofs.Order.{natAbs-mul-le, natAbs-below}
 use Rattle.algebra.proofs.SumOrder.{natAbs-sum}
 use Rattle.model.specs.Basic.{tabulate}
+use Rattle.model.specs.Psf.{total, autocorrelations}
+use Rattle.model.specs.Error.{Target, targetOf, kernel, error, filteredError, filteredErrors}
+use Rattle.model.specs.Refusal.{PsfFits, PlateFits}
 use Rattle.model.specs.Window.{addWindow, scattered, Small, mostFiltered}
-use Rattle.model.proofs.Basic.{length-tabulate}
-use Rattle.model.proofs.Window.{small-tabulate, square-small, scattered-next}
-use Rattle.sums.specs.Scatter.{mirroredAt}
+use Rattle.model.proofs.Basic.{length-tabulate, tabulate-cong}
+use Rattle.model.proofs.Psf.{autocorrelation-nonneg, autocorrelation≤}
+use Rattle.model.proofs.Error.{filtered-part≤, error≤}
+use Rattle.model.proofs.Window.{small-tabulate, square-small, scattered-next, windows-filtered, windows-autocorrelation}
+use Rattle.sums.specs.Scatter.{mirroredAt, mirrored, laidAt, laid, Steady}
 
 pub table-long : (N : ℕ) (f : ℕ → ℤ) {t : List ℤ} → t ≡ tabulate N f → length t ≡ N
 table-long N f e = ap length e ∙ length-tabulate N f
@@ -36,3 +44,45 @@ mirrored-small r p i q s h =
 
 pub side-small : {r : ℕ} → r ≤ 3 → (2 * r + 1) * (2 * r + 1) ≤ 49
 side-small {r} h = NatL.mul-le-mul {n₂ = 7} {m₂ = 7} (omega arith) (omega arith)
+
+-- ---- what the two tables are
+pub mirrored-is : (r : ℕ) (psf : List ℕ) → length psf ≡ (2 * r + 1) * (2 * r + 1) → mirrored r (map pos psf) ≡ autocorrelations r psf
+unfolding mirrored autocorrelations
+mirrored-is r psf e =
+    tabulate-cong ((4 * r + 1) * (4 * r + 1)) (λ q h.
+    ap (λ n. mirroredAt r (map pos psf) n q) (length-map psf pos) ∙ windows-autocorrelation r psf e q)
+
+module _ (w h r : ℕ) (psf gray dots : List ℕ) where
+  abbrev target : Target
+  target = targetOf w h r psf gray
+
+  laid-part : (n q : ℕ) → laidAt w h r (autocorrelations r psf) gray dots n q ≡ sumTo n (λ i. kernel target i q *ℤ error target dots i)
+  unfolding error
+  laid-part n q = windows-filtered target dots n q
+
+  pub laid-is : laid w h r (autocorrelations r psf) gray dots ≡ filteredErrors target dots
+  unfolding laid filteredErrors filteredError
+  laid-is = tabulate-cong (h * w) (λ q l. laid-part (h * w) q)
+
+  module _ {table : ℕ} (f : PlateFits w h r psf gray dots table) (bytes : (n : ℕ) → getD gray n 0 ≤ 255) where
+    pub laid-steady : Steady w h r (autocorrelations r psf) gray dots
+    laid-steady =
+        record {
+          each = λ n q l. rw (laid-part n q)
+              (filtered-part≤ target (f .wide .0) (f .psf-fits .square) 1024 255 (f .psf-fits .sum-high) dots small n q l);
+        }
+      where
+        small : (n : ℕ) → natAbs (error target dots n) ≤ 255
+        small n = error≤ target 255 dots n (omega (arith, f .bits .each n)) (bytes n)
+
+-- the entries of the autocorrelation
+pub kernel-small : (r : ℕ) (psf : List ℕ) → PsfFits r psf → Small 1048576 (autocorrelations r psf)
+unfolding autocorrelations
+kernel-small r psf f =
+    small-tabulate 1048576 _ _ (λ q h.
+    NatL.le-trans (natAbs-below _ (total psf * total psf) (autocorrelation-nonneg r psf _ _) (autocorrelation≤ r psf (f .square) _ _))
+    (NatL.mul-le-mul {n₂ = 1024} {m₂ = 1024} (f .sum-high) (f .sum-high)))
+
+-- ---- a part of a local array that is lent
+pub part-whole : (n : ℕ) (l : List ℤ) → n ≤ length l → n ≡ length (take n l)
+part-whole n l h = sym (length-take-le n l h)

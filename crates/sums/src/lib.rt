@@ -7,7 +7,9 @@ ghost use lib.IntN.{pos, natAbs, _*ℤ_};
 ghost use lib.ListN.{length, getD};
 ghost use Rattle.algebra.specs.Sum.{sumTo};
 ghost use Rattle.model.specs.Basic.{tabulate, AtMost};
-ghost use Rattle.model.specs.Error.{errorOf};
+ghost use Rattle.model.specs.Psf.{autocorrelations};
+ghost use Rattle.model.specs.Error.{errorOf, targetOf, filteredErrors};
+ghost use Rattle.model.specs.Refusal.{PsfFits, PlateFits};
 ghost use Rattle.model.specs.Window.{Small, mostFiltered};
 ghost use Rattle.sums.specs.Scatter.{mirrored, laid, Steady};
 use window::add_window;
@@ -103,4 +105,35 @@ pub fn weigh(gray: &[u8], dots: &[u8], table: &[i32]) -> i64
         m += 1;
     }
     sum
+}
+
+// the autocorrelation of a judged psf
+pub fn autocorrelate(radius: usize, psf: &[u8], out: &mut [i32])
+    requires { ⌜ PsfFits radius (now psf) × (length (now out) ≡ (4 * radius + 1) * (4 * radius + 1)) ⌝ }
+    ensures { λ _. ⌜ now (out .exit) ≡ autocorrelations radius (now (psf .entry)) ⌝ }
+{
+    let mut p = [0i32; 49];
+    let n = psf.len();
+    widen(psf, &mut p[..n]);
+    correlate(radius, &p[..n], out);
+}
+
+// the table of a judged plate
+pub fn filter(
+    width: usize,
+    height: usize,
+    radius: usize,
+    psf: &[u8],
+    gray: &[u8],
+    dots: &[u8],
+    table: &mut [i32],
+)
+    requires { ⌜ PlateFits width height radius (now psf) (now gray) (now dots) (length (now table)) ⌝ }
+    ensures { λ _. ⌜ now (table .exit) ≡ filteredErrors (targetOf width height radius (now (psf .entry)) (now (gray .entry))) (now (dots .entry)) ⌝ }
+{
+    let mut c = [0i32; 169];
+    let side = 4 * radius + 1;
+    let n = side * side;
+    autocorrelate(radius, psf, &mut c[..n]);
+    lay(width, height, radius, &c[..n], gray, dots, table);
 }
