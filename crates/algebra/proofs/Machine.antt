@@ -6,6 +6,7 @@ use native.Mathlib.Nat.{le-trans, le-refl, lt-of-le-of-lt}
 use native.Mathlib.Omega.{arith}
 use lib.Dec.{T, ltb, ltb→lt}
 use lib.IntN.{ℤ, pos, negℤ, natAbs, _+ℤ_, _-ℤ_, _*ℤ_}
+use lib.Signed.{mag}
 use mir.Syntax.{Width}
 use mir.Val.{SFits, toZ, ofZ, hbits}
 use mir.Facts.{toZ-ofZ, toZ-pos}
@@ -31,6 +32,10 @@ literal w n t = of-cast w n (le-refl n) (ltb→lt n (2 ^ hbits w) t)
 -- a parameter, an element of a slice, a call's result
 pub of-small : (w : Width) (z : ℤ) {k : ℕ} → natAbs z ≤ k → k < 2 ^ hbits w → Holds w (ofZ w z) z k
 of-small w z p q = record { value = toZ-ofZ (fits-small w z p q); size = p }
+
+-- a number that its own width holds, read back from its bits
+pub read-back : (w : Width) (z : ℤ) → mag z < 2 ^ hbits w → toZ w (ofZ w z) ≡ z
+read-back w z h = toZ-ofZ (record { sfits = h })
 
 -- ---- the same local, said otherwise
 -- its size, of the number as the bits give it

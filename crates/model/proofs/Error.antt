@@ -18,7 +18,8 @@ use Rattle.algebra.proofs.SumOrder.{sum-nonneg, sum-cells, sum-first≤, weight
 use Rattle.algebra.proofs.Interval.{sumFrom-cong, sumFrom-swap, sumFrom-nonneg, correlate-widened, Supported2}
 use Rattle.algebra.proofs.Quadratic.{quadratic-cong, gram}
 use Rattle.model.specs.Psf.{total, psfAt, autocorrelation}
-use Rattle.model.specs.Error.{Target, cells, row, column, kernel, error, filteredError, squaredError, perceivedError, perceivedSquares}
+use Rattle.model.specs.Error.{Target, cells, row, column, kernel, error, filteredError, filteredErrors, squaredError, perceivedError, perceivedSquares}
+use Rattle.model.proofs.Basic.{length-tabulate}
 use Rattle.model.proofs.Psf.{psf-supported, autocorrelation-even, autocorrelation-nonneg, autocorrelation-grid≤}
 
 -- a difference of two numbers from 0 to B
@@ -34,6 +35,10 @@ module _ (t : Target) where
   pub squared-quadratic : (dots : List ℕ) → squaredError t dots ≡ quadratic (kernel t) (cells t) (error t dots)
   unfolding squaredError filteredError quadratic bilinear transform
   squared-quadratic dots = refl
+
+  pub filtered-long : (dots : List ℕ) → length (filteredErrors t dots) ≡ cells t
+  unfolding filteredErrors
+  filtered-long dots = length-tabulate (cells t) (filteredError t dots)
 
   -- c(n - m) = c(m - n)
   pub kernel-symmetric : (n m : ℕ) → kernel t n m ≡ kernel t m n

@@ -3,4 +3,5 @@ pub mod Psf
 pub mod Error
 pub mod Window
 pub mod Refusal
+pub mod Calls
 pub mod Examples

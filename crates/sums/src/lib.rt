@@ -8,7 +8,7 @@ ghost use lib.ListN.{length, getD};
 ghost use Rattle.algebra.specs.Sum.{sumTo};
 ghost use Rattle.model.specs.Basic.{tabulate, AtMost};
 ghost use Rattle.model.specs.Psf.{autocorrelations};
-ghost use Rattle.model.specs.Error.{errorOf, targetOf, filteredErrors};
+ghost use Rattle.model.specs.Error.{errorOf, targetOf, filteredErrors, squaredError};
 ghost use Rattle.model.specs.Refusal.{PsfFits, PlateFits};
 ghost use Rattle.model.specs.Window.{Small, mostFiltered};
 ghost use Rattle.sums.specs.Scatter.{mirrored, laid, Steady};
@@ -136,4 +136,23 @@ pub fn filter(
     let n = side * side;
     autocorrelate(radius, psf, &mut c[..n]);
     lay(width, height, radius, &c[..n], gray, dots, table);
+}
+
+// the squared error of a judged plate, whose table is worked out in `scratch`
+pub fn square(
+    width: usize,
+    height: usize,
+    radius: usize,
+    psf: &[u8],
+    gray: &[u8],
+    dots: &[u8],
+    scratch: &mut [i32],
+) -> i64
+    requires { ⌜ PlateFits width height radius (now psf) (now gray) (now dots) (length (now gray)) ⌝ }
+    requires { ⌜ 65536 ≤ length (now scratch) ⌝ }
+    ensures { λ r. ⌜ r ≡ squaredError (targetOf width height radius (now (psf .entry)) (now (gray .entry))) (now (dots .entry)) ⌝ }
+{
+    let n = gray.len();
+    filter(width, height, radius, psf, gray, dots, &mut scratch[..n]);
+    weigh(gray, dots, &scratch[..n])
 }

@@ -1,0 +1,31 @@
+-- `filter::filtered_error` meets its contract: refused with the judge's number, or done.
+use borrow.Author.Needs.{needs}
+use mathlib.Core.Path.{_≡_, sym, _∙_}
+use Rattle.model.specs.Calls.{filteredErrorCall}
+use Rattle.model.proofs.Refusal.{plate-fits}
+use Rattle.model.proofs.Calls.{is-refused, is-done}
+use Rattle.filter.proofs.filtered_error.Statement.{statement}
+use Rattle.filter.proofs.filtered_error.Tie as tie
+
+judge-plate-requires : tie.Need-judge-plate-requires
+judge-plate-requires c κs = search needs
+
+returns : tie.Need-returns
+unfolding filteredErrorCall
+returns c = is-refused _ _ _ (c .before .judge-plate .ensures) (c .if1 .taken)
+
+filter-requires : tie.Need-filter-requires
+filter-requires c κs = plate-fits _ _ _ _ _ _ _ (sym (c .before .before .judge-plate .ensures) ∙ c .before .if1 .left)
+
+same-length : tie.Need-same-length
+same-length c = search needs
+
+returns-2 : tie.Need-returns-2
+unfolding filteredErrorCall
+returns-2 c =
+    let e = c .before .before .before in
+    is-done _ _ _ (sym (e .before .judge-plate .ensures) ∙ e .if1 .left) (c .before .filter .ensures)
+
+pub filtered-error-spec : {M : Type 1} → statement M
+filtered-error-spec =
+    tie.close (tie.spec judge-plate-requires returns filter-requires same-length returns-2)

@@ -1,0 +1,40 @@
+-- `filter::squared_error` meets its contract: refused with the judge's number, or the sum.
+use borrow.Author.Needs.{needs}
+use mathlib.Core.Path.{_≡_, sym, _∙_, ap, refl}
+use Prim.Native.Nat.{ℕ}
+use lib.Dec.{lit≤}
+use mir.Syntax.{w64}
+use Rattle.algebra.proofs.Machine.{read-back}
+use Rattle.model.specs.Calls.{result, squaredErrorCall}
+use Rattle.model.specs.Refusal.{plateRefusal}
+use Rattle.model.proofs.Refusal.{plate-again, plate-fits}
+use Rattle.model.proofs.Calls.{is-refused, is-done}
+use Rattle.filter.proofs.squared_error.Statement.{statement}
+use Rattle.filter.proofs.squared_error.Tie as tie
+
+judge-plate-requires : tie.Need-judge-plate-requires
+judge-plate-requires c κs = search needs
+
+returns : tie.Need-returns
+unfolding squaredErrorCall
+returns c = is-refused tt _ _ (c .before .judge-plate .ensures ∙ plate-again _ _ _ _ _ _) (c .if1 .taken) .0
+
+slice-aggregate-square : tie.Need-slice-aggregate-square
+slice-aggregate-square c = search needs
+
+square-requires : tie.Need-square-requires
+square-requires c κs =
+    let e = c .before in
+    (plate-fits _ _ _ _ _ _ _ (sym (e .before .judge-plate .ensures) ∙ e .if1 .left), lit≤ tt)
+
+returns-2 : tie.Need-returns-2
+unfolding squaredErrorCall
+returns-2 c =
+    let e = c .before .before .before in
+    ap result (read-back w64 (c .before .square .result) (c .before .square .ok) ∙ c .before .square .ensures)
+    ∙ is-done tt _ _ (sym (e .before .judge-plate .ensures ∙ plate-again _ _ _ _ _ _) ∙ e .if1 .left) refl .0
+
+pub squared-error-spec : {M : Type 1} → statement M
+squared-error-spec =
+    tie.close
+    (tie.spec judge-plate-requires returns slice-aggregate-square square-requires returns-2)
