@@ -5,3 +5,4 @@ pub mod Window
 pub mod Refusal
 pub mod Calls
 pub mod Examples
+pub mod Promises

@@ -1,0 +1,87 @@
+-- The promises of document 01 that are due so far, each proved by citing the law that does the work. That the public calls
+-- answer and leave just this stands in their contracts (crates/filter/src/lib.rt), which cite the same definitions.
+use mathlib.Core.Path.{_≡_, sym, _∙_}
+use mathlib.Core.Logic.{_⊎_, inl, inr}
+use mathlib.Core.List.{List, [], _∷_}
+use Prim.Native.Nat.{ℕ, _+_, _*_, _≤_}
+use native.Mathlib.Nat.{le-trans, mul-le-mul, mul-le-mul-right}
+use native.Mathlib.Omega.{arith}
+use lib.IntN.{ℤ, pos, negℤ, natAbs, _*ℤ_}
+use lib.Signed.{_≤ℤ_, _<ℤ_}
+use lib.ListN.{length}
+use Rattle.algebra.specs.Sum.{sumFrom}
+use Rattle.algebra.proofs.Order.{natAbs-above}
+use Rattle.model.specs.Basic.{AtMost}
+use Rattle.model.specs.Psf.{total, autocorrelation}
+use Rattle.model.specs.Error.{Target, targetOf, error, filteredError, squaredError, perceivedSquares}
+use Rattle.model.specs.Refusal.{plateRefusal, PlateFits}
+use Rattle.model.specs.Examples.{Examples}
+use Rattle.model.proofs.Psf.{autocorrelation-even, autocorrelation-supported, autocorrelation-nonneg, autocorrelation-total}
+use Rattle.model.proofs.Error.{squared-perceived, squared-nonneg, filtered≤, squared≤, error≤}
+use Rattle.model.proofs.Refusal.{plate-again, plate-fits}
+use Rattle.model.proofs.Examples.{examples}
+
+-- ---- the autocorrelation, of any psf
+module _ (r : ℕ) (psf : List ℕ) where
+  -- c(d) = c(-d) always
+  pub c-is-even : (dy dx : ℤ) → autocorrelation r psf dy dx ≡ autocorrelation r psf (negℤ dy) (negℤ dx)
+  c-is-even = autocorrelation-even r psf
+
+  -- c is 0 where a coordinate of d passes 2r
+  abbrev pub Passes : ℤ → Type 0
+  Passes d = (d <ℤ negℤ (pos (2 * r))) ⊎ (pos (2 * r) <ℤ d)
+
+  pub c-ends-at-2r : (dy dx : ℤ) → Passes dy ⊎ Passes dx → autocorrelation r psf dy dx ≡ pos 0
+  c-ends-at-2r dy dx (inl (inl h)) = autocorrelation-supported r psf .rows dx .below dy h
+  c-ends-at-2r dy dx (inl (inr h)) = autocorrelation-supported r psf .rows dx .above dy h
+  c-ends-at-2r dy dx (inr (inl h)) = autocorrelation-supported r psf .columns dy .below dx h
+  c-ends-at-2r dy dx (inr (inr h)) = autocorrelation-supported r psf .columns dy .above dx h
+
+  -- c ≥ 0
+  pub c-is-not-negative : (dy dx : ℤ) → pos 0 ≤ℤ autocorrelation r psf dy dx
+  c-is-not-negative = autocorrelation-nonneg r psf
+
+  -- the sum of all c is the square of the psf's sum
+  pub c-sums-to-square : length psf ≡ (2 * r + 1) * (2 * r + 1)
+      → sumFrom (negℤ (pos (2 * r))) (4 * r + 1) (λ dy. sumFrom (negℤ (pos (2 * r))) (4 * r + 1) (autocorrelation r psf dy))
+      ≡ pos (total psf) *ℤ pos (total psf)
+  c-sums-to-square = autocorrelation-total r psf
+
+-- ---- the table and the squared error, of every input that is not refused (gray is made of bytes)
+module _ (w h r : ℕ) (psf gray dots : List ℕ) (bytes : AtMost 255 gray) where
+  abbrev target : Target
+  target = targetOf w h r psf gray
+
+  errors≤ : {table : ℕ} → PlateFits w h r psf gray dots table → (n : ℕ) → natAbs (error target dots n) ≤ 255
+  errors≤ f n = error≤ target 255 dots n (omega (arith, f .bits .each n)) (bytes .each n)
+
+  -- |T| is at most 267,386,880
+  pub table-is-bounded : (table m : ℕ) → plateRefusal w h r psf gray dots (table ∷ []) ≡ 0
+      → natAbs (filteredError target dots m) ≤ 267386880
+  table-is-bounded table m e =
+      let f = plate-fits w h r psf gray dots table e in
+      filtered≤ target (f .wide .0) (f .psf-fits .square) 1024 255 (f .psf-fits .sum-high) dots (errors≤ f) m
+
+  module _ (taken : plateRefusal w h r psf gray dots [] ≡ 0) where
+    fits : PlateFits w h r psf gray dots (length gray)
+    fits = plate-fits w h r psf gray dots (length gray) (plate-again w h r psf gray dots ∙ taken)
+
+    -- E equals the sum, over the cells of the plate widened by r on each side, of the squares of the spread-out error
+    pub squared-error-is-perceived : squaredError target dots ≡ perceivedSquares target dots
+    squared-error-is-perceived = squared-perceived target (fits .wide .0) dots
+
+    -- so E ≥ 0
+    pub squared-error-is-not-negative : pos 0 ≤ℤ squaredError target dots
+    squared-error-is-not-negative = squared-nonneg target (fits .wide .0) dots
+
+    -- E is at most 4,468,483,974,758,400
+    pub squared-error-is-bounded : squaredError target dots ≤ℤ pos 4468483974758400
+    squared-error-is-bounded =
+        let f = fits in
+        natAbs-above (squaredError target dots) 4468483974758400
+        (le-trans (squared≤ target (f .wide .0) (f .psf-fits .square) 1024 255 (f .psf-fits .sum-high) dots (errors≤ f))
+        (mul-le-mul-right (255 * 267386880) (mul-le-mul (f .high .1) (f .wide .1))))
+
+-- ---- the starred examples of document 01
+pub examples-hold : Examples
+examples-hold = examples
