@@ -1,14 +1,14 @@
 -- Sums over an interval of ℤ: the shift, the split, and the window outside which a function is 0; then sums of products of
 -- two such functions, one shifted against the other, and the largest that a sum over a grid can be.
 use mathlib.Core.Path.{_≡_, refl, sym, _∙_, ap, ap₂, subst}
-use mathlib.Core.List.{List, [], _∷_}
-use Prim.Native.Nat.{ℕ, suc, _+_, _*_, _-_, _≤_, _<_}
+use mathlib.Core.List.{[], _∷_}
+use Prim.Native.Nat.{ℕ, suc, _+_, _*_, _-_, _<_}
 use native.Mathlib.Omega.{arith}
 use lib.IntN.{ℤ, pos, negℤ, _+ℤ_, _-ℤ_, _*ℤ_, +ℤ-assoc, +ℤ-idl, +ℤ-idr, zero-*ℤ, *ℤ-zero}
 use lib.Signed.{_≤ℤ_, _<ℤ_}
 use Rattle.algebra.specs.Sum.{sumTo, sumFrom}
 use Rattle.algebra.proofs.Solver.{ring!, reify}
-use Rattle.algebra.proofs.Order.{ordℤ, pp, nn, show≤, show<, show≡, read≤, ≤ℤ-trans}
+use Rattle.algebra.proofs.Order.{ordℤ, pp, nn, show≤, show<, show≡, ≤ℤ-trans}
 use Rattle.algebra.proofs.Sum.{sum-cong, sum-zeros, sum-scale, sum-swap, sum-split}
 use Rattle.algebra.proofs.SumOrder.{sum-mono, sum-nonneg}
 

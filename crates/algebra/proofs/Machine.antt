@@ -1,6 +1,6 @@
 -- Signed machine numbers of any width: the bits n of a local stand for an integer z that is at most k from 0. Each
 -- operation has two laws: that it does not wrap (`-fits`), and what the bits it leaves stand for (`-holds`).
-use mathlib.Core.Path.{_≡_, refl, sym, _∙_, subst}
+use mathlib.Core.Path.{_≡_, sym, _∙_, subst}
 use Prim.Native.Nat.{ℕ, _+_, _*_, _^_, _≤_, _<_}
 use native.Mathlib.Nat.{le-trans, le-refl, lt-of-le-of-lt}
 use native.Mathlib.Omega.{arith}
@@ -41,10 +41,6 @@ read-back w z h = toZ-ofZ (record { sfits = h })
 -- its size, of the number as the bits give it
 pub size-of : {w : Width} {n k : ℕ} {z : ℤ} → Holds w n z k → natAbs (toZ w n) ≤ k
 size-of {k} h = subst (λ (v : ℤ). natAbs v ≤ k) (sym (h .value)) (h .size)
-
--- the number by no other name than what the bits give
-pub itself : {w : Width} {n k : ℕ} {z : ℤ} → Holds w n z k → Holds w n (toZ w n) k
-itself h = record { value = refl; size = size-of h }
 
 -- the number under an equal name
 pub named : {w : Width} {n k : ℕ} {z z′ : ℤ} → z ≡ z′ → Holds w n z k → Holds w n z′ k

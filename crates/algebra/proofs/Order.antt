@@ -1,11 +1,11 @@
 -- The order of ℤ read as an order of ℕ, for omega: z is pos (pp z) − pos (nn z), and an expression over atoms is up − dn.
-use mathlib.Core.Path.{_≡_, refl, sym, _∙_, ap, ap₂, subst}
+use mathlib.Core.Path.{_≡_, refl, sym, _∙_, ap, ap₂}
 use mathlib.Core.List.{List, [], _∷_}
 use Prim.Native.Nat.{ℕ, zero, suc, _+_, _*_, _≤_, _<_}
 use native.Mathlib.Nat as NatL
 use native.Mathlib.Omega.{arith}
-use lib.Dec.{T, leb, ltb, leb→le, le→leb, ltb→lt, lt→ltb}
-use lib.IntN.{ℤ, pos, negsuc, negℤ, natAbs, _+ℤ_, _-ℤ_, _*ℤ_, +ℤ-idl, -ℤ-+ℤ-cancel}
+use lib.Dec.{T, leb→le, le→leb, ltb→lt, lt→ltb}
+use lib.IntN.{ℤ, pos, negsuc, negℤ, natAbs, _+ℤ_, _-ℤ_, _*ℤ_, +ℤ-idl}
 use lib.Signed.{_≤ℤ_, _<ℤ_, leZ, ltZ, mag}
 use Rattle.algebra.proofs.Ring.{+ℤ-cancel-r}
 use Rattle.algebra.proofs.Solver.{ring!, reify, Is, Ex, var, lit, _⊞_, _⊠_, ⊟, nthZ, den, quote, quote-is}
@@ -157,28 +157,6 @@ pub natAbs-parts : (z : ℤ) → natAbs z ≡ pp z + nn z
 natAbs-parts (pos n) = omega arith
 natAbs-parts (negsuc n) = omega arith
 
--- −H ≤ z < H, as a signed width's range is stated
-pub mag-parts : (z : ℤ) {H : ℕ} → mag z < H → (pp z < H) × (nn z ≤ H)
-mag-parts (pos n) h = omega arith
-mag-parts (negsuc n) h = omega arith
-
-mag-by : (z : ℤ) {H : ℕ} → pp z < H → nn z ≤ H → mag z < H
-mag-by (pos n) h k = h
-mag-by (negsuc n) h k = k
-
--- an expression is in a signed width's range: two goals for omega
-pub mag-show : (ρ : List ℤ) (z : ℤ) {H : ℕ} (r : Is ρ z) → up r < H + dn r → dn r ≤ H + up r → mag z < H
-mag-show ρ z {H} r h k =
-    mag-by z (go₁ z (pn r)) (go₂ z (pn r))
-  where
-    go₁ : (z : ℤ) → pp z + dn r ≡ up r + nn z → pp z < H
-    go₁ (pos n) e = omega arith
-    go₁ (negsuc n) e = omega arith
-
-    go₂ : (z : ℤ) → pp z + dn r ≡ up r + nn z → nn z ≤ H
-    go₂ (pos n) e = omega arith
-    go₂ (negsuc n) e = omega arith
-
 -- the size of an expression
 pub natAbs-show : (ρ : List ℤ) (z : ℤ) {H : ℕ} (r : Is ρ z) → up r ≤ H + dn r → dn r ≤ H + up r → natAbs z ≤ H
 natAbs-show ρ z {H} r h k = go z (pn r)
@@ -248,43 +226,3 @@ pub +ℤ-mono : (a b c d : ℤ) → a ≤ℤ b → c ≤ℤ d → (a +ℤ c) ≤
 
 pub ≤ℤ-trans : (a b c : ℤ) → a ≤ℤ b → b ≤ℤ c → a ≤ℤ c
 ≤ℤ-trans a b c h k = omega (arith, ordℤ)
-
-pub ≤ℤ-antisym : (a b : ℤ) → a ≤ℤ b → b ≤ℤ a → a ≡ b
-≤ℤ-antisym a b h k = parts a ∙ show≡ ∙ sym (parts b)
-  where
-    e : pp a + nn b ≡ pp b + nn a
-    e = omega (arith, ordℤ)
-
-    show≡ : pos (pp a) -ℤ pos (nn a) ≡ pos (pp b) -ℤ pos (nn b)
-    show≡ = crossed (pp a) (nn a) (pp b) (nn b) e
-
--- ---- cancelling a factor
-natAbs-zero : (z : ℤ) → natAbs z ≡ zero → z ≡ pos 0
-natAbs-zero (pos n) e = ap pos e
-natAbs-zero (negsuc n) e = absurd (no n e)
-  where
-    no : (n : ℕ) → suc n ≡ zero → ⊥
-    no n e = omega arith
-
-pub *ℤ-cancel : (k a b : ℤ) → pos 0 <ℤ k → k *ℤ a ≡ k *ℤ b → a ≡ b
-*ℤ-cancel (pos zero) a b h e = absurd (h .lt)
-*ℤ-cancel (negsuc n) a b h e = absurd (h .lt)
-*ℤ-cancel (pos (suc n)) a b h e = show≡ (a ∷ b ∷ []) (search reify) (zero-diff (natAbs-zero (a -ℤ b) small))
-  where
-    k : ℤ
-    k = pos (suc n)
-
-    nought : k *ℤ (a -ℤ b) ≡ pos 0
-    nought = left k a b ∙ ap (λ z. z -ℤ k *ℤ b) e ∙ right (k *ℤ b)
-      where
-        left : (k a b : ℤ) → k *ℤ (a -ℤ b) ≡ k *ℤ a -ℤ k *ℤ b
-        left k a b = ring! (k ∷ a ∷ b ∷ []) (search reify depth 40) refl
-
-        right : (z : ℤ) → z -ℤ z ≡ pos 0
-        right z = ring! (z ∷ []) (search reify depth 40) refl
-
-    small : natAbs (a -ℤ b) ≡ zero
-    small = omega (arith, sym (natAbs-*ℤ k (a -ℤ b)) ∙ ap natAbs nought)
-
-    zero-diff : a -ℤ b ≡ pos 0 → pp a + nn b ≡ pp b + nn a
-    zero-diff q = omega (arith, read≡ (a ∷ b ∷ []) (search reify depth 40) q)

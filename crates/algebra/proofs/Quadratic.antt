@@ -1,11 +1,10 @@
 -- The law of an edit: what a list of (cell, amount) adds to the transform and to the quadratic form of a symmetric kernel
 -- (document 004, equations 13 and 21), with the cases of one and of two cells; and sums of squares as a quadratic form.
-use mathlib.Core.Path.{_≡_, refl, sym, _∙_, ap, ap₂, subst}
+use mathlib.Core.Path.{_≡_, refl, sym, _∙_, ap, ap₂}
 use mathlib.Core.List.{List, [], _∷_}
-use Prim.Native.Nat.{ℕ, zero, suc, _+_, _*_, _≤_, _<_}
-use native.Mathlib.Omega.{arith}
-use lib.IntN.{ℤ, pos, negsuc, negℤ, _+ℤ_, _-ℤ_, _*ℤ_, +ℤ-assoc, +ℤ-comm, +ℤ-idl, +ℤ-idr, zero-*ℤ, *ℤ-zero, *ℤ-comm, negℤ-+ℤ}
-use Rattle.algebra.proofs.Ring.{ringℤ, +ℤ-left-comm, +ℤ-swap4, *ℤ-left-comm, *ℤ-assoc, *ℤ-distr, *ℤ-distl, one-*ℤ, *ℤ-idr}
+use Prim.Native.Nat.{ℕ, _<_}
+use lib.IntN.{ℤ, pos, _+ℤ_, _*ℤ_, +ℤ-idr, zero-*ℤ, *ℤ-comm}
+use Rattle.algebra.proofs.Ring.{*ℤ-assoc, *ℤ-distr, *ℤ-distl}
 use Rattle.algebra.proofs.Solver.{ring!, reify}
 use Rattle.algebra.specs.Sum.{sumTo, sumOver}
 use Rattle.algebra.specs.Quadratic.{transform, bilinear, quadratic, Increment, Within, point, gained, edited}
@@ -29,9 +28,9 @@ module _ (C : ℕ → ℕ → ℤ) (N : ℕ) where
   unfolding transform
   transform-gained l q w = sum-cong N (λ i h. *ℤ-comm (C i q) (gained l i)) ∙ sum-gained N l (λ n. C n q) w
 
-  pub transform-edited : (x : ℕ → ℤ) (l : List Increment) (q : ℕ) → Within N l → transform C N (edited x l) q ≡ transform C N x q +ℤ sumOver l (λ c. c .amount *ℤ C (c .cell) q)
+  pub transform-edit : (x : ℕ → ℤ) (l : List Increment) (q : ℕ) → Within N l → transform C N (edited x l) q ≡ transform C N x q +ℤ sumOver l (λ c. c .amount *ℤ C (c .cell) q)
   unfolding edited
-  transform-edited x l q w = transform-add x (gained l) q ∙ ap (λ z. transform C N x q +ℤ z) (transform-gained l q w)
+  transform-edit x l q w = transform-add x (gained l) q ∙ ap (λ z. transform C N x q +ℤ z) (transform-gained l q w)
 
   bilinear-add-l : (x y z : ℕ → ℤ) → bilinear C N (λ n. x n +ℤ y n) z ≡ bilinear C N x z +ℤ bilinear C N y z
   unfolding bilinear
@@ -63,10 +62,10 @@ module _ (C : ℕ → ℕ → ℤ) (N : ℕ) where
         turn : (m n : ℕ) → m < N → n < N → x m *ℤ (C n m *ℤ y n) ≡ y n *ℤ (C m n *ℤ x m)
         turn m n h k = rw (symm n m k h) (ring! (x m ∷ C m n ∷ y n ∷ []) (search reify depth 40 fits 9000) refl)
 
-    pub quadratic-edited : (x : ℕ → ℤ) (l : List Increment) → Within N l
+    pub quadratic-edit : (x : ℕ → ℤ) (l : List Increment) → Within N l
         → quadratic C N (edited x l) ≡ quadratic C N x +ℤ pos 2 *ℤ sumOver l (λ c. c .amount *ℤ transform C N x (c .cell)) +ℤ sumOver l (λ c. sumOver l (λ d. c .amount *ℤ d .amount *ℤ C (d .cell) (c .cell)))
     unfolding quadratic edited
-    quadratic-edited x l w =
+    quadratic-edit x l w =
         bilinear-add-l x (gained l) (edited x l)
         ∙ ap₂ (λ a b. a +ℤ b) (bilinear-add-r x x (gained l)) (bilinear-add-r (gained l) x (gained l))
         ∙ ap (λ z. bilinear C N x x +ℤ z +ℤ (bilinear C N (gained l) x +ℤ bilinear C N (gained l) (gained l))) (bilinear-comm x (gained l))
@@ -83,18 +82,18 @@ module _ (C : ℕ → ℕ → ℤ) (N : ℕ) where
             ∙ sumOver-cong l (λ d. sym (*ℤ-assoc (c .amount) (d .amount) (C (d .cell) (c .cell))))
 
     -- one cell
-    pub quadratic-edit1 : (x : ℕ → ℤ) (m : ℕ) (a : ℤ) → m < N
+    pub quadratic-edit-one : (x : ℕ → ℤ) (m : ℕ) (a : ℤ) → m < N
         → quadratic C N (edited x (record { cell = m; amount = a } ∷ [])) ≡ quadratic C N x +ℤ pos 2 *ℤ (a *ℤ transform C N x m) +ℤ a *ℤ a *ℤ C m m
     unfolding sumOver
-    quadratic-edit1 x m a h = quadratic-edited x (record { cell = m; amount = a } ∷ []) (h, tt) ∙ simp +ℤ-idr
+    quadratic-edit-one x m a h = quadratic-edit x (record { cell = m; amount = a } ∷ []) (h, tt) ∙ simp +ℤ-idr
 
     -- two cells
-    pub quadratic-edit2 : (x : ℕ → ℤ) (m n : ℕ) (a b : ℤ) → m < N → n < N
+    pub quadratic-edit-two : (x : ℕ → ℤ) (m n : ℕ) (a b : ℤ) → m < N → n < N
         → quadratic C N (edited x (record { cell = m; amount = a } ∷ record { cell = n; amount = b } ∷ []))
         ≡ quadratic C N x +ℤ pos 2 *ℤ (a *ℤ transform C N x m +ℤ b *ℤ transform C N x n) +ℤ (a *ℤ a *ℤ C m m +ℤ pos 2 *ℤ (a *ℤ b *ℤ C m n) +ℤ b *ℤ b *ℤ C n n)
     unfolding sumOver
-    quadratic-edit2 x m n a b h k =
-        quadratic-edited x (record { cell = m; amount = a } ∷ record { cell = n; amount = b } ∷ []) (h, (k, tt))
+    quadratic-edit-two x m n a b h k =
+        quadratic-edit x (record { cell = m; amount = a } ∷ record { cell = n; amount = b } ∷ []) (h, (k, tt))
         ∙ rw (symm n m k h) (ring! (quadratic C N x ∷ a ∷ b ∷ transform C N x m ∷ transform C N x n ∷ C m m ∷ C m n ∷ C n n ∷ []) (search reify depth 40 fits 9000) refl)
 
 -- ---- the form is linear in the kernel, and a square of a linear form is a quadratic form

@@ -1,7 +1,7 @@
 -- ℤ is a commutative ring: the laws that lib.IntN leaves out.
-use mathlib.Core.Path.{_≡_, refl, sym, _∙_, ap, ap₂}
-use Prim.Native.Nat.{ℕ, zero, suc, _+_, _*_}
-use lib.IntN.{ℤ, pos, negsuc, sucℤ, predℤ, negℤ, _+ℤ_, _-ℤ_, _*ℤ_, +ℤ-assoc, +ℤ-comm, +ℤ-idl, +ℤ-idr, +ℤ-invl, +ℤ-invr, +ℤ-sucℤ, +ℤ-predℤ, sucℤ-*ℤ, predℤ-*ℤ, zero-*ℤ, *ℤ-zero, *ℤ-comm, negℤ-+ℤ, negℤ-negℤ, +ℤ-negℤ-cancel, -ℤ-+ℤ-cancel}
+use mathlib.Core.Path.{_≡_, sym, _∙_, ap, ap₂}
+use Prim.Native.Nat.{zero, suc}
+use lib.IntN.{ℤ, pos, negsuc, predℤ, negℤ, _+ℤ_, _-ℤ_, _*ℤ_, +ℤ-assoc, +ℤ-comm, +ℤ-idl, +ℤ-idr, +ℤ-invl, +ℤ-sucℤ, +ℤ-predℤ, sucℤ-*ℤ, predℤ-*ℤ, zero-*ℤ, *ℤ-comm, negℤ-+ℤ, negℤ-negℤ, +ℤ-negℤ-cancel}
 
 pub +ℤ-left-comm : (a b c : ℤ) → a +ℤ (b +ℤ c) ≡ b +ℤ (a +ℤ c)
 +ℤ-left-comm a b c = sym (+ℤ-assoc a b c) ∙ ap (λ x. x +ℤ c) (+ℤ-comm a b) ∙ +ℤ-assoc b a c
@@ -34,9 +34,6 @@ pub *ℤ-distl : (x m k : ℤ) → x *ℤ (m +ℤ k) ≡ x *ℤ m +ℤ x *ℤ k
 -- cancellation
 pub +ℤ-cancel-r : (a b k : ℤ) → a +ℤ k ≡ b +ℤ k → a ≡ b
 +ℤ-cancel-r a b k e = sym (+ℤ-negℤ-cancel a k) ∙ ap (λ x. x -ℤ k) e ∙ +ℤ-negℤ-cancel b k
-
-pub +ℤ-cancel-l : (k a b : ℤ) → k +ℤ a ≡ k +ℤ b → a ≡ b
-+ℤ-cancel-l k a b e = +ℤ-cancel-r a b k (+ℤ-comm a k ∙ e ∙ +ℤ-comm k b)
 
 -- negation
 pub neg-unique : (a b : ℤ) → a +ℤ b ≡ pos zero → a ≡ negℤ b

@@ -1,13 +1,13 @@
 -- A solver for ring identities of ℤ: both sides are read as expressions over a list of atoms, brought to a sorted
 -- polynomial with integer coefficients, and compared by `refl`. Used as
 --   ring! (a ∷ b ∷ []) (search reify depth 40) refl
-use mathlib.Core.Path.{_≡_, refl, sym, _∙_, ap, ap₂, subst}
+use mathlib.Core.Path.{_≡_, refl, sym, _∙_, ap, ap₂}
 use mathlib.Core.List.{List, [], _∷_}
 use mathlib.Core.Bool.{Bool, true, false}
 use Prim.Native.Nat.{ℕ, zero, suc, _+_, _*_, compare, Ordering, Ordering·lt, Ordering·eq, Ordering·gt}
 use lib.Dec.{T, leb, eqb, isEq, eqb→eq}
-use lib.IntN.{ℤ, pos, negsuc, negℤ, _+ℤ_, _-ℤ_, _*ℤ_, +ℤ-assoc, +ℤ-comm, +ℤ-idl, +ℤ-idr, zero-*ℤ, *ℤ-zero, *ℤ-comm, negℤ-+ℤ}
-use Rattle.algebra.proofs.Ring.{ringℤ, +ℤ-left-comm, *ℤ-left-comm, *ℤ-assoc, *ℤ-distr, *ℤ-distl, one-*ℤ, *ℤ-idr, neg-one-*ℤ, negℤ-*ℤ}
+use lib.IntN.{ℤ, pos, negsuc, negℤ, _+ℤ_, _*ℤ_, +ℤ-assoc, +ℤ-idl, +ℤ-idr, zero-*ℤ, *ℤ-zero, negℤ-+ℤ}
+use Rattle.algebra.proofs.Ring.{ringℤ, +ℤ-left-comm, *ℤ-left-comm, *ℤ-assoc, *ℤ-distr, one-*ℤ, *ℤ-idr, negℤ-*ℤ}
 
 -- ---- expressions
 infixl 6 _⊞_

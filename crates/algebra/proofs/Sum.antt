@@ -1,21 +1,16 @@
 -- Laws of finite sums: congruence, linearity, exchange, splitting, a single term, and sums over a list.
-use mathlib.Core.Path.{_≡_, refl, sym, _∙_, ap, ap₂, subst}
-use mathlib.Core.List.{List, [], _∷_, _++_}
-use mathlib.Core.Bool.{Bool, true, false, not, cond}
-use Prim.Native.Nat.{ℕ, zero, suc, _+_, _*_, _≤_, _<_}
+use mathlib.Core.Path.{_≡_, refl, sym, _∙_, ap, ap₂}
+use mathlib.Core.List.{List, [], _∷_}
+use mathlib.Core.Bool.{Bool, true, false, cond}
+use Prim.Native.Nat.{ℕ, zero, suc, _+_, _<_}
 use native.Mathlib.Nat as NatL
 use native.Mathlib.Decide.{ℕ-discrete}
 use native.Mathlib.Omega.{arith}
 use lib.Dec.{T, eqb, eqb→eq, eqb-refl}
-use lib.IntN.{ℤ, pos, negsuc, negℤ, _+ℤ_, _-ℤ_, _*ℤ_, +ℤ-assoc, +ℤ-comm, +ℤ-idl, +ℤ-idr, zero-*ℤ, *ℤ-zero, *ℤ-comm, negℤ-+ℤ}
+use lib.IntN.{ℤ, pos, negℤ, _+ℤ_, _*ℤ_, +ℤ-assoc, +ℤ-idl, +ℤ-idr, zero-*ℤ, *ℤ-zero, *ℤ-comm, negℤ-+ℤ}
 use Rattle.algebra.specs.Sum.{sumTo, sumOver}
 use Rattle.algebra.specs.Quadratic.{point}
-use Rattle.algebra.proofs.Ring.{ringℤ, +ℤ-left-comm, +ℤ-swap4, *ℤ-left-comm, *ℤ-assoc, *ℤ-distr, *ℤ-distl, one-*ℤ, *ℤ-idr, neg-one-*ℤ, negℤ-*ℤ}
-use Rattle.algebra.proofs.Solver.{ring!, reify}
-
-pub sumTo-zero : (f : ℕ → ℤ) → sumTo zero f ≡ pos zero
-unfolding sumTo
-sumTo-zero f = refl
+use Rattle.algebra.proofs.Ring.{+ℤ-swap4, *ℤ-distl}
 
 pub sumTo-suc : (n : ℕ) (f : ℕ → ℤ) → sumTo (suc n) f ≡ sumTo n f +ℤ f n
 unfolding sumTo
@@ -97,9 +92,6 @@ pub sum-point : (n k : ℕ) (a : ℤ) (g : ℕ → ℤ) → k < n → sumTo n (�
 sum-point n k a g h =
     sum-one n k (λ i. point k a i *ℤ g i) h (λ i l d. ap (λ x. x *ℤ g i) (point-other k a i d) ∙ zero-*ℤ (g i))
     ∙ ap (λ x. x *ℤ g k) (point-same k a)
-
-pub sum-point-r : (n k : ℕ) (a : ℤ) (g : ℕ → ℤ) → k < n → sumTo n (λ i. g i *ℤ point k a i) ≡ a *ℤ g k
-sum-point-r n k a g h = sum-cong n (λ i l. *ℤ-comm (g i) (point k a i)) ∙ sum-point n k a g h
 
 -- ---- over a list
 module _ {A : Type 0} where

@@ -1,12 +1,12 @@
 -- The order of sums, their sizes, and sums over the cells of a grid.
-use mathlib.Core.Path.{_≡_, refl, sym, _∙_, ap, ap₂, subst}
-use mathlib.Core.List.{List, [], _∷_}
+use mathlib.Core.Path.{_≡_, sym, _∙_, ap, ap₂, subst}
+use mathlib.Core.List.{[], _∷_}
 use Prim.Native.Nat.{ℕ, zero, suc, _+_, _*_, _-_, _/_, _%_, _≤_, _<_}
 use native.Mathlib.Nat as NatL
 use native.Mathlib.Omega.{arith}
-use lib.IntN.{ℤ, pos, negsuc, negℤ, natAbs, _+ℤ_, _-ℤ_, _*ℤ_}
-use lib.Signed.{_≤ℤ_, _<ℤ_, ≤ℤ-refl}
-use Rattle.algebra.proofs.Solver.{ring!, reify}
+use lib.IntN.{ℤ, pos, natAbs, _+ℤ_, _*ℤ_}
+use lib.Signed.{_≤ℤ_, ≤ℤ-refl}
+use Rattle.algebra.proofs.Solver.{reify}
 use Rattle.algebra.proofs.Order.{ordℤ, show≤, +ℤ-mono, natAbs-+ℤ, natAbs-plus, natAbs-mul-le}
 use Rattle.algebra.specs.Sum.{sumTo}
 use Rattle.algebra.proofs.Grid.{cell-row, cell-column}

@@ -99,12 +99,10 @@ fn tables() {
     );
 }
 
-// 1, 2, 5, 6 and 7; then 1 before 7, and 5 before 6
-fn tables_refused() {
+// 1 and 2; and 1 before 7
+fn tables_refused_by_measures() {
     let even = [0u8, 0, 0, 1, 2, 1, 0, 0, 0];
-    let none = [0u8; 9];
     let mut table = [7i32; 2];
-    let mut long = [7i32; 3];
     filtered_error(b"width 0", 0, 1, 1, &even, &[], &[], &mut table);
     filtered_error(
         b"height 257",
@@ -127,7 +125,24 @@ fn tables_refused() {
         &mut table,
     );
     filtered_error(
-        b"psf of radius 0 with radius 1",
+        b"width 0 and dot 2",
+        0,
+        1,
+        1,
+        &even,
+        &[100, 130],
+        &[1, 2],
+        &mut table,
+    );
+}
+
+// 5; and 5 before 6
+fn tables_refused_by_lengths() {
+    let even = [0u8, 0, 0, 1, 2, 1, 0, 0, 0];
+    let mut table = [7i32; 2];
+    let mut long = [7i32; 3];
+    filtered_error(
+        b"psf of 1 entry",
         2,
         1,
         1,
@@ -167,36 +182,32 @@ fn tables_refused() {
         &mut long,
     );
     filtered_error(
+        b"gray of 1 entry and psf sum 0",
+        2,
+        1,
+        1,
+        &[0; 9],
+        &[100],
+        &[1, 0],
+        &mut table,
+    );
+}
+
+// 6 and 7
+fn tables_refused_by_contents() {
+    let even = [0u8, 0, 0, 1, 2, 1, 0, 0, 0];
+    let mut table = [7i32; 2];
+    filtered_error(
         b"psf sum 0",
         2,
         1,
         1,
-        &none,
+        &[0; 9],
         &[100, 130],
         &[1, 0],
         &mut table,
     );
     filtered_error(b"dot 2", 2, 1, 1, &even, &[100, 130], &[1, 2], &mut table);
-    filtered_error(
-        b"width 0 and dot 2",
-        0,
-        1,
-        1,
-        &even,
-        &[100, 130],
-        &[1, 2],
-        &mut table,
-    );
-    filtered_error(
-        b"gray of 1 entry and psf sum 0",
-        2,
-        1,
-        1,
-        &none,
-        &[100],
-        &[1, 0],
-        &mut table,
-    );
 }
 
 fn squared_errors() {
@@ -237,7 +248,9 @@ fn main() {
     autocorrelations();
     autocorrelations_refused();
     tables();
-    tables_refused();
+    tables_refused_by_measures();
+    tables_refused_by_lengths();
+    tables_refused_by_contents();
     squared_errors();
     squared_errors_refused();
 }

@@ -1,5 +1,5 @@
 -- What a call answers and leaves where it is refused, and where it is not.
-use mathlib.Core.Path.{_≡_, refl, sym, _∙_, ap}
+use mathlib.Core.Path.{_≡_, refl, ap}
 use Prim.Native.Nat.{ℕ, zero, suc}
 use native.Mathlib.Omega.{arith}
 use Rattle.model.specs.Calls.{refused, Outcome, unless}

@@ -1,6 +1,6 @@
--- Laws of the sums: the kernel is symmetric, the squared error is the sum of the squares of the perceived error, so it is
--- never negative, and the bounds of both that make the machine arithmetic safe.
-use mathlib.Core.Path.{_≡_, refl, sym, _∙_, ap, ap₂, subst}
+-- Laws of the sums: the kernel is symmetric; what an edit does to T and E; the squared error is the sum of the squares of
+-- the perceived error, so it is never negative; and the bounds of both, which make the machine arithmetic safe.
+use mathlib.Core.Path.{_≡_, refl, sym, _∙_, ap, ap₂, subst, fun-ext}
 use mathlib.Core.List.{List, [], _∷_}
 use Prim.Native.Nat.{ℕ, _+_, _*_, _/_, _%_, _≤_, _<_}
 use native.Mathlib.Nat as NatL
@@ -8,15 +8,15 @@ use native.Mathlib.Omega.{arith}
 use lib.IntN.{ℤ, pos, negℤ, natAbs, _+ℤ_, _-ℤ_, _*ℤ_, +ℤ-comm}
 use lib.Signed.{_≤ℤ_}
 use lib.ListN.{length, getD}
-use Rattle.algebra.specs.Sum.{sumTo, sumFrom}
-use Rattle.algebra.specs.Quadratic.{transform, bilinear, quadratic}
+use Rattle.algebra.specs.Sum.{sumTo, sumFrom, sumOver}
+use Rattle.algebra.specs.Quadratic.{transform, bilinear, quadratic, Increment, Within, edited}
 use Rattle.algebra.proofs.Solver.{ring!, reify}
-use Rattle.algebra.proofs.Order.{ordℤ, ≤ℤ-trans, 0≤-square, natAbs-show, natAbs-below, natAbs-mul-le}
+use Rattle.algebra.proofs.Order.{≤ℤ-trans, 0≤-square, natAbs-show, natAbs-below, natAbs-mul-le}
 use Rattle.algebra.proofs.Grid.{row<, column<}
 use Rattle.algebra.proofs.Sum.{sum-cong}
 use Rattle.algebra.proofs.SumOrder.{sum-nonneg, sum-cells, sum-first≤, weighted≤, natAbs-sum}
 use Rattle.algebra.proofs.Interval.{sumFrom-cong, sumFrom-swap, sumFrom-nonneg, correlate-widened, Supported2}
-use Rattle.algebra.proofs.Quadratic.{quadratic-cong, gram}
+use Rattle.algebra.proofs.Quadratic.{transform-edit, quadratic-edit, quadratic-cong, gram}
 use Rattle.model.specs.Psf.{total, psfAt, autocorrelation}
 use Rattle.model.specs.Error.{Target, cells, row, column, kernel, error, filteredError, filteredErrors, squaredError, perceivedError, perceivedSquares}
 use Rattle.model.proofs.Basic.{length-tabulate}
@@ -27,15 +27,6 @@ pub apart : (a b : ℕ) {B : ℕ} → a ≤ B → b ≤ B → natAbs (pos a -ℤ
 apart a b h k = natAbs-show (pos a ∷ pos b ∷ []) (pos a -ℤ pos b) (search reify depth 40) (omega arith) (omega arith)
 
 module _ (t : Target) where
-  -- T and E are the transform and the quadratic form of the kernel, so the law of an edit is theirs
-  pub filtered-transform : (dots : List ℕ) (m : ℕ) → filteredError t dots m ≡ transform (kernel t) (cells t) (error t dots) m
-  unfolding filteredError transform
-  filtered-transform dots m = refl
-
-  pub squared-quadratic : (dots : List ℕ) → squaredError t dots ≡ quadratic (kernel t) (cells t) (error t dots)
-  unfolding squaredError filteredError quadratic bilinear transform
-  squared-quadratic dots = refl
-
   pub filtered-long : (dots : List ℕ) → length (filteredErrors t dots) ≡ cells t
   unfolding filteredErrors
   filtered-long dots = length-tabulate (cells t) (filteredError t dots)
@@ -53,6 +44,24 @@ module _ (t : Target) where
   pub kernel-nonneg : (n m : ℕ) → pos 0 ≤ℤ kernel t n m
   unfolding kernel
   kernel-nonneg n m = autocorrelation-nonneg (t .radius) (t .psf) (row t n -ℤ row t m) (column t n -ℤ column t m)
+
+  -- the law of an edit (document 004, equations 13 and 21): what a list of (cell, amount) does to T and to E
+  module _ (dots dots′ : List ℕ) (l : List Increment) (inside : Within (cells t) l)
+      (edit : (n : ℕ) → error t dots′ n ≡ edited (error t dots) l n) where
+    pub filtered-edit : (q : ℕ)
+        → filteredError t dots′ q ≡ filteredError t dots q +ℤ sumOver l (λ c. c .amount *ℤ kernel t (c .cell) q)
+    unfolding filteredError transform
+    filtered-edit q =
+        ap (λ x. transform (kernel t) (cells t) x q) (fun-ext edit)
+        ∙ transform-edit (kernel t) (cells t) (error t dots) l q inside
+
+    pub squared-edit : squaredError t dots′ ≡ squaredError t dots
+        +ℤ pos 2 *ℤ sumOver l (λ c. c .amount *ℤ filteredError t dots (c .cell))
+        +ℤ sumOver l (λ c. sumOver l (λ d. c .amount *ℤ d .amount *ℤ kernel t (d .cell) (c .cell)))
+    unfolding squaredError filteredError quadratic bilinear transform
+    squared-edit =
+        ap (quadratic (kernel t) (cells t)) (fun-ext edit)
+        ∙ quadratic-edit (kernel t) (cells t) (λ m n h k. kernel-symmetric m n) (error t dots) l inside
 
   module _ (wide : 0 < t .width) where
     -- over the widened plate, two cells' psfs overlap by the kernel between them
@@ -82,10 +91,9 @@ module _ (t : Target) where
 
     -- E is the sum of the squares of the perceived error
     pub squared-perceived : (dots : List ℕ) → squaredError t dots ≡ perceivedSquares t dots
-    unfolding perceivedSquares perceivedError sumFrom
+    unfolding perceivedSquares perceivedError sumFrom squaredError filteredError quadratic bilinear transform
     squared-perceived dots =
-        squared-quadratic dots
-        ∙ sym (gram (t .height + 2 * t .radius) (t .width + 2 * t .radius) (cells t)
+        sym (gram (t .height + 2 * t .radius) (t .width + 2 * t .radius) (cells t)
         (λ y x n. psfAt (t .radius) (t .psf) (negℤ (pos (t .radius)) +ℤ pos y -ℤ row t n) (negℤ (pos (t .radius)) +ℤ pos x -ℤ column t n)) (error t dots)
         ∙ quadratic-cong (cells t) _ (kernel t) (error t dots) overlap)
 

@@ -1,23 +1,24 @@
 -- The promises of document 01 that are due so far, each proved by citing the law that does the work. That the public calls
 -- answer and leave just this stands in their contracts (crates/filter/src/lib.rt), which cite the same definitions.
-use mathlib.Core.Path.{_≡_, sym, _∙_}
+use mathlib.Core.Path.{_≡_, _∙_}
 use mathlib.Core.Logic.{_⊎_, inl, inr}
 use mathlib.Core.List.{List, [], _∷_}
 use Prim.Native.Nat.{ℕ, _+_, _*_, _≤_}
 use native.Mathlib.Nat.{le-trans, mul-le-mul, mul-le-mul-right}
 use native.Mathlib.Omega.{arith}
-use lib.IntN.{ℤ, pos, negℤ, natAbs, _*ℤ_}
+use lib.IntN.{ℤ, pos, negℤ, natAbs, _+ℤ_, _*ℤ_}
 use lib.Signed.{_≤ℤ_, _<ℤ_}
 use lib.ListN.{length}
-use Rattle.algebra.specs.Sum.{sumFrom}
+use Rattle.algebra.specs.Sum.{sumFrom, sumOver}
+use Rattle.algebra.specs.Quadratic.{Increment, Within, edited}
 use Rattle.algebra.proofs.Order.{natAbs-above}
 use Rattle.model.specs.Basic.{AtMost}
 use Rattle.model.specs.Psf.{total, autocorrelation}
-use Rattle.model.specs.Error.{Target, targetOf, error, filteredError, squaredError, perceivedSquares}
+use Rattle.model.specs.Error.{Target, targetOf, cells, kernel, error, filteredError, squaredError, perceivedSquares}
 use Rattle.model.specs.Refusal.{plateRefusal, PlateFits}
 use Rattle.model.specs.Examples.{Examples}
 use Rattle.model.proofs.Psf.{autocorrelation-even, autocorrelation-supported, autocorrelation-nonneg, autocorrelation-total}
-use Rattle.model.proofs.Error.{squared-perceived, squared-nonneg, filtered≤, squared≤, error≤}
+use Rattle.model.proofs.Error.{filtered-edit, squared-edit, squared-perceived, squared-nonneg, filtered≤, squared≤, error≤}
 use Rattle.model.proofs.Refusal.{plate-again, plate-fits}
 use Rattle.model.proofs.Examples.{examples}
 
@@ -81,6 +82,20 @@ module _ (w h r : ℕ) (psf gray dots : List ℕ) (bytes : AtMost 255 gray) wher
         natAbs-above (squaredError target dots) 4468483974758400
         (le-trans (squared≤ target (f .wide .0) (f .psf-fits .square) 1024 255 (f .psf-fits .sum-high) dots (errors≤ f))
         (mul-le-mul-right (255 * 267386880) (mul-le-mul (f .high .1) (f .wide .1))))
+
+-- ---- the law of an edit, of any target and step: the table and the squared error after cells gain amounts
+module _ (t : Target) (dots dots′ : List ℕ) (l : List Increment) (inside : Within (cells t) l)
+    (edit : (n : ℕ) → error t dots′ n ≡ edited (error t dots) l n) where
+  -- T gains Σ aᵢ·c(q - mᵢ)
+  pub table-after-edit : (q : ℕ)
+      → filteredError t dots′ q ≡ filteredError t dots q +ℤ sumOver l (λ c. c .amount *ℤ kernel t (c .cell) q)
+  table-after-edit = filtered-edit t dots dots′ l inside edit
+
+  -- E gains 2·Σ aᵢ·T(mᵢ) + ΣΣ aᵢ·aⱼ·c(mᵢ - mⱼ)
+  pub squared-error-after-edit : squaredError t dots′ ≡ squaredError t dots
+      +ℤ pos 2 *ℤ sumOver l (λ c. c .amount *ℤ filteredError t dots (c .cell))
+      +ℤ sumOver l (λ c. sumOver l (λ d. c .amount *ℤ d .amount *ℤ kernel t (d .cell) (c .cell)))
+  squared-error-after-edit = squared-edit t dots dots′ l inside edit
 
 -- ---- the starred examples of document 01
 pub examples-hold : Examples

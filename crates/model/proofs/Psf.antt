@@ -2,7 +2,7 @@
 -- all c is the square of the psf's sum. No mirror symmetry of the psf is used.
 use mathlib.Core.Path.{_≡_, refl, sym, _∙_, ap, ap₂, subst}
 use mathlib.Core.List.{List, [], _∷_}
-use Prim.Native.Nat.{ℕ, zero, suc, _+_, _*_, _-_, _≤_, _<_}
+use Prim.Native.Nat.{ℕ, suc, _+_, _*_, _-_, _<_}
 use native.Mathlib.Omega.{arith}
 use lib.IntN.{ℤ, pos, negℤ, _+ℤ_, _-ℤ_, _*ℤ_, +ℤ-idl, *ℤ-comm, *ℤ-zero}
 use lib.Signed.{_≤ℤ_, _<ℤ_}
@@ -11,8 +11,8 @@ use Rattle.algebra.specs.Sum.{sumTo, sumFrom}
 use Rattle.algebra.proofs.Solver.{ring!, reify}
 use Rattle.algebra.proofs.Order.{ordℤ, show<, show≡, read<, 0≤-mul}
 use Rattle.algebra.proofs.Grid.{cell-row, cell-column, cell<}
-use Rattle.algebra.proofs.Sum.{sum-cong, sum-split, sum-zeros, sum-scale, sum-scale-r}
-use Rattle.algebra.proofs.SumOrder.{sum-nonneg, sum-grid}
+use Rattle.algebra.proofs.Sum.{sum-cong, sum-split, sum-zeros, sum-scale-r}
+use Rattle.algebra.proofs.SumOrder.{sum-grid}
 use Rattle.algebra.proofs.Interval.{sumFrom-cong, sumFrom-swap, sumFrom-swap2, sumFrom-scale, sumFrom-one, sumFrom-shift, sumFrom-nonneg, correlate-turn, Supported2, grid≤, grid-whole}
 use Rattle.model.specs.Basic.{squareAt}
 use Rattle.model.specs.Psf.{total, psfAt, autocorrelation, autocorrelations}

@@ -3,7 +3,7 @@
 use mathlib.Core.Path.{_≡_, refl, sym, _∙_, ap, ap₂, subst}
 use mathlib.Core.Bool.{Bool, true, false}
 use mathlib.Core.List.{List, [], _∷_, map}
-use Prim.Native.Nat.{ℕ, zero, suc, _+_, _*_, _-_, _/_, _%_, _≤_, _<_}
+use Prim.Native.Nat.{ℕ, _+_, _*_, _-_, _/_, _%_, _≤_, _<_}
 use native.Mathlib.Nat as NatL
 use native.Mathlib.Decide.{decLt}
 use native.Mathlib.Omega.{arith}
@@ -19,7 +19,7 @@ use Rattle.algebra.proofs.Sum.{sumTo-suc, sum-cong}
 use Rattle.algebra.proofs.SumOrder.{sum-cells}
 use Rattle.model.specs.Basic.{pick, tabulate, gridAt, squareAt}
 use Rattle.model.specs.Psf.{psfAt, autocorrelation, autocorrelations}
-use Rattle.model.specs.Error.{Target, row, column, kernel, error}
+use Rattle.model.specs.Error.{Target, row, kernel, error}
 use Rattle.model.specs.Window.{gain, addWindow, scattered, Small, Scaled}
 use Rattle.model.proofs.Basic.{length-tabulate, getD-tabulate, tabulate-cong, square-map, square-inside}
 use Rattle.model.proofs.Psf.{autocorrelations-at}

@@ -3,7 +3,7 @@
 use mathlib.Core.Path.{_≡_}
 use mathlib.Core.List.{List, [], _∷_}
 use Prim.Native.Nat.{ℕ}
-use lib.IntN.{ℤ, pos, negsuc}
+use lib.IntN.{pos, negsuc}
 use Rattle.model.specs.Psf.{autocorrelation}
 use Rattle.model.specs.Error.{Target, targetOf, filteredErrors, squaredError}
 

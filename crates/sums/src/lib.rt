@@ -18,10 +18,10 @@ use window::add_window;
 pub fn clear(table: &mut [i32])
     ensures { λ _. ⌜ now (table .exit) ≡ tabulate (length (now (table .entry))) (λ q. pos 0) ⌝ }
 {
-    let mut i: usize = 0;
-    while i < table.len() {
-        table[i] = 0;
-        i += 1;
+    let mut q: usize = 0;
+    while q < table.len() {
+        table[q] = 0;
+        q += 1;
     }
 }
 

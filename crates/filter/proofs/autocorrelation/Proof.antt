@@ -1,6 +1,6 @@
 -- `filter::autocorrelation` meets its contract: refused with the judge's number, or done.
 use borrow.Author.Needs.{needs}
-use mathlib.Core.Path.{_≡_, sym, _∙_}
+use mathlib.Core.Path.{sym, _∙_}
 use Rattle.model.specs.Calls.{autocorrelationCall}
 use Rattle.model.proofs.Refusal.{autocorrelation-fits}
 use Rattle.model.proofs.Calls.{is-refused, is-done}

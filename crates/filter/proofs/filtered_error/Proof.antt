@@ -1,6 +1,6 @@
 -- `filter::filtered_error` meets its contract: refused with the judge's number, or done.
 use borrow.Author.Needs.{needs}
-use mathlib.Core.Path.{_≡_, sym, _∙_}
+use mathlib.Core.Path.{sym, _∙_}
 use Rattle.model.specs.Calls.{filteredErrorCall}
 use Rattle.model.proofs.Refusal.{plate-fits}
 use Rattle.model.proofs.Calls.{is-refused, is-done}
@@ -23,8 +23,8 @@ same-length c = search needs
 returns-2 : tie.Need-returns-2
 unfolding filteredErrorCall
 returns-2 c =
-    let e = c .before .before .before in
-    is-done _ _ _ (sym (e .before .judge-plate .ensures) ∙ e .if1 .left) (c .before .filter .ensures)
+    is-done _ _ _ (sym (c .before .before .before .before .judge-plate .ensures) ∙ c .before .before .before .if1 .left)
+    (c .before .filter .ensures)
 
 pub filtered-error-spec : {M : Type 1} → statement M
 filtered-error-spec =

@@ -1,12 +1,10 @@
 -- `filter::squared_error` meets its contract: refused with the judge's number, or the sum.
 use borrow.Author.Needs.{needs}
-use mathlib.Core.Path.{_≡_, sym, _∙_, ap, refl}
-use Prim.Native.Nat.{ℕ}
+use mathlib.Core.Path.{sym, _∙_, ap, refl}
 use lib.Dec.{lit≤}
 use mir.Syntax.{w64}
 use Rattle.algebra.proofs.Machine.{read-back}
 use Rattle.model.specs.Calls.{result, squaredErrorCall}
-use Rattle.model.specs.Refusal.{plateRefusal}
 use Rattle.model.proofs.Refusal.{plate-again, plate-fits}
 use Rattle.model.proofs.Calls.{is-refused, is-done}
 use Rattle.filter.proofs.squared_error.Statement.{statement}

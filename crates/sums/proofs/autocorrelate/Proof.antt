@@ -1,12 +1,11 @@
 -- `sums::autocorrelate` meets its contract: the local array's part holds the psf's bytes.
 use borrow.Author.Needs.{needs}
-use Prim.Native.Nat.{ℕ, _+_, _*_, _≤_}
+use Prim.Native.Nat.{_+_, _*_, _≤_}
 use native.Mathlib.Omega.{arith}
 use mathlib.Core.Path.{_≡_, sym, _∙_, ap, subst}
 use mathlib.Core.List.{List, _++_, map}
-use lib.Dec.{lit≤}
 use lib.IntN.{ℤ, pos}
-use lib.ListN.{length, getD, take, length-append, length-map}
+use lib.ListN.{length, take, length-append, length-map}
 use lib.Seq.{take-at}
 use Rattle.model.specs.Window.{Small}
 use Rattle.model.proofs.Window.{small-bytes}

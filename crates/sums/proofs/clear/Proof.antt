@@ -9,10 +9,10 @@ use Rattle.sums.proofs.clear.Statement.{statement}
 use Rattle.sums.proofs.clear.Tie as tie
 
 abbrev Inv-loop : tie.InvT-loop
-Inv-loop table₀ i₀ table i = (i ≤ length table₀) × Filling (pos 0) (λ q. pos 0) (length table₀) i table
+Inv-loop table₀ q₀ table q = (q ≤ length table₀) × Filling (pos 0) (λ k. pos 0) (length table₀) q table
 
 abbrev μ-loop : tie.MeasureT-loop
-μ-loop table₀ i₀ table i = length table₀ - i
+μ-loop table₀ q₀ table q = length table₀ - q
 
 loop-holds : tie.Need-loop-holds Inv-loop μ-loop
 loop-holds c = (omega arith, fill-none refl)
@@ -23,8 +23,8 @@ mul-table c = omega arith
 slice-set-of-table : tie.Need-slice-set-of-table Inv-loop μ-loop
 slice-set-of-table c = omega arith
 
-add-i : tie.Need-add-i Inv-loop μ-loop
-add-i c = omega arith
+add-q : tie.Need-add-q Inv-loop μ-loop
+add-q c = omega arith
 
 loop-less : tie.Need-loop-less Inv-loop μ-loop
 loop-less c = omega arith
@@ -47,7 +47,7 @@ clear-spec =
     loop-holds
     mul-table
     slice-set-of-table
-    add-i
+    add-q
     loop-less
     loop-again
     same-length

@@ -1,18 +1,14 @@
 -- `sums::correlate` meets its contract: after i entries the output is what their windows come to.
-use Prim.Native.Nat.{ℕ, _+_, _*_, _-_, _/_, _%_, _≤_, _<_}
-use native.Mathlib.Nat as NatL
+use Prim.Native.Nat.{_+_, _*_, _-_, _/_, _%_, _≤_, _<_}
 use native.Mathlib.Omega.{arith}
 use mathlib.Core.Path.{_≡_, sym, _∙_, ap}
-use mathlib.Core.List.{List}
 use lib.Dec.{lit<, lit≤}
-use lib.IntN.{ℤ, pos, natAbs, _*ℤ_}
+use lib.IntN.{pos}
 use lib.ListN.{length, getD}
 use mir.Syntax.{w32}
-use mir.Val.{ofZ}
 use Rattle.algebra.proofs.Grid.{row<, column<}
-use Rattle.algebra.proofs.Machine.{Holds, of-small, size-of}
+use Rattle.algebra.proofs.Machine.{of-small, size-of}
 use Rattle.model.specs.Basic.{tabulate}
-use Rattle.model.specs.Window.{Small}
 use Rattle.model.proofs.Window.{scaled-by, scattered-none}
 use Rattle.sums.specs.Scatter.{mirroredAt, mirrored}
 use Rattle.sums.proofs.Scatter.{table-long, table-small, table-next, mirrored-small, side-small}

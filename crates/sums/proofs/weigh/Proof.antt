@@ -1,5 +1,5 @@
 -- `sums::weigh` meets its contract: the sum so far is that of the cells passed, and each term is small.
-use Prim.Native.Nat.{ℕ, _+_, _*_, _-_, _≤_, _<_}
+use Prim.Native.Nat.{ℕ, _+_, _*_, _-_, _≤_}
 use native.Mathlib.Numerals.{add-one}
 use native.Mathlib.Omega.{arith}
 use mathlib.Core.Path.{_≡_, refl, sym, _∙_, ap}
@@ -11,7 +11,7 @@ use mir.Syntax.{w32, w64}
 use mir.Val.{toZ, ofZ}
 use Rattle.algebra.specs.Sum.{sumTo}
 use Rattle.algebra.proofs.Machine.{Holds, of-small, named, wider, cast-fits, cast-holds, mul-fits, mul-holds, add-fits, add-holds}
-use Rattle.algebra.proofs.Sum.{sumTo-zero, sumTo-suc}
+use Rattle.algebra.proofs.Sum.{sumTo-suc}
 use Rattle.model.specs.Error.{errorOf}
 use Rattle.sums.proofs.weigh.Statement.{statement}
 use Rattle.sums.proofs.weigh.Tie as tie

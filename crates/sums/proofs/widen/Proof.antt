@@ -1,7 +1,7 @@
 -- `sums::widen` meets its contract: the entries passed are the bytes.
 use Prim.Native.Nat.{_≤_, _-_}
 use native.Mathlib.Omega.{arith}
-use mathlib.Core.Path.{refl, sym, _∙_}
+use mathlib.Core.Path.{sym, _∙_}
 use lib.Dec.{lit<}
 use lib.IntN.{pos}
 use lib.ListN.{length, getD}
