@@ -4,7 +4,7 @@ ghost use mathlib.Core.Path.{_≡_};
 ghost use Prim.Native.Nat.{_≤_};
 ghost use lib.ListN.{length};
 ghost use Rattle.model.specs.Psf.{total};
-ghost use Rattle.model.specs.Refusal.{firstOf, above, badSize, badRadius, badLength, badSum, badDot};
+ghost use Rattle.model.specs.Refusal.{firstOf, either, above, badSize, badRadius, badLength, badSum, badDot};
 ghost use Rattle.model.specs.Refusal.{autocorrelationRefusal, plateRefusal};
 
 // the sum of a few bytes
@@ -33,6 +33,16 @@ fn any_above(limit: u8, bytes: &[u8]) -> bool
         i += 1;
     }
     false
+}
+
+// the first of two numbers that is not 0
+pub fn first(a: u32, b: u32) -> u32
+    ensures { λ r. ⌜ r ≡ either a b ⌝ }
+{
+    if a != 0 {
+        return a;
+    }
+    b
 }
 
 // 1 and 2
@@ -119,10 +129,7 @@ pub fn judge_plate(
     }
     let slices = judge_slices(radius, psf, height * width, gray.len(), dots.len(), table);
     let bytes = judge_dots(dots);
-    if slices != 0 {
-        return slices;
-    }
-    bytes
+    first(slices, bytes)
 }
 
 // the whole list of the autocorrelation, handed an output of that length

@@ -9,7 +9,7 @@ use borrow.Author.Tests.{ltb-false, eqb-true, eqb-false, not-false}
 use lib.Dec.{T, ltb, eqb}
 use lib.ListN.{length, getD}
 use Rattle.model.specs.Psf.{total}
-use Rattle.model.specs.Refusal.{Refusal, _when_, firstOf, outside, differs, above}
+use Rattle.model.specs.Refusal.{Refusal, _when_, firstOf, either, outside, differs, above}
 use Rattle.model.specs.Refusal.{badSize, badRadius, badLength, badSum, badDot, autocorrelationRefusal, plateRefusal, PsfFits, PlateFits}
 
 -- ---- the first of a list
@@ -39,6 +39,16 @@ first-here (n when false ∷ l) k e h = first-here l k e h
 pub first-past : (l k : List Refusal) {x : ℕ} → None l → x ≡ firstOf k → x ≡ firstOf (l ++ k)
 first-past [] k h e = e
 first-past (n when b ∷ l) k h e = rw (h .0) (first-past l k (h .1) e)
+
+pub either-first : (a b : ℕ) → (a ≡ 0 → ⊥) → a ≡ either a b
+either-first zero b h = absurd (h refl)
+either-first (suc a) b h = refl
+
+pub first-append : (l k : List Refusal) → T (numbered l) → either (firstOf l) (firstOf k) ≡ firstOf (l ++ k)
+first-append [] k t = refl
+first-append (zero when b ∷ l) k t = absurd t
+first-append (suc n when true ∷ l) k t = refl
+first-append (suc n when false ∷ l) k t = first-append l k t
 
 -- ---- the conditions
 neither : (a b : Bool) → a || b ≡ false → (a ≡ false) × (b ≡ false)

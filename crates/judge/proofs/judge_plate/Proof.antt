@@ -1,14 +1,14 @@
 -- `judge::judge_plate` meets its contract: the first of its list is found by the judges of the list's three parts.
 use mathlib.Core.List.{List, [], _∷_, _++_}
-use mathlib.Core.Path.{_≡_}
+use mathlib.Core.Path.{_≡_, _∙_, ap₂}
 use Prim.Native.Nat.{ℕ, _*_, _≤_}
 use borrow.Author.Needs.{needs}
 use borrow.Author.Tests.{ltb-false}
 use lib.ListN.{length}
 use mir.Syntax.{w64}
 use mir.Val.{Fits}
-use Rattle.model.specs.Refusal.{Refusal, firstOf, badSize, badRadius, badLength, badSum, badDot, plateRefusal}
-use Rattle.model.proofs.Refusal.{none, first-here, first-past, size-inside}
+use Rattle.model.specs.Refusal.{Refusal, firstOf, either, badSize, badRadius, badLength, badSum, badDot, plateRefusal}
+use Rattle.model.proofs.Refusal.{none, first-here, first-past, first-append, size-inside}
 use Rattle.judge.proofs.Laws.{product-fits}
 use Rattle.judge.proofs.judge_plate.Statement.{statement}
 use Rattle.judge.proofs.judge_plate.Tie as tie
@@ -38,14 +38,10 @@ module _ (w h r : ℕ) where
     unfolding plateRefusal
     by-measures = first-here measures (slices ++ last)
 
-    by-slices : {x y : ℕ} → x ≡ firstOf measures → x ≡ 0 → y ≡ firstOf slices → (y ≡ 0 → ⊥) → Answer y
+    by-rest : {x a b y : ℕ} → x ≡ firstOf measures → x ≡ 0 → a ≡ firstOf slices → b ≡ firstOf last → y ≡ either a b → Answer y
     unfolding plateRefusal
-    by-slices e z f n = first-past measures (slices ++ last) (none measures tt e z) (first-here slices last f n)
-
-    by-dots : {x y v : ℕ} → x ≡ firstOf measures → x ≡ 0 → y ≡ firstOf slices → y ≡ 0 → v ≡ firstOf last → Answer v
-    unfolding plateRefusal
-    by-dots e z f y g =
-        first-past measures (slices ++ last) (none measures tt e z) (first-past slices last (none slices tt f y) g)
+    by-rest e z f g h =
+        first-past measures (slices ++ last) (none measures tt e z) (h ∙ ap₂ either f g ∙ first-append slices last tt)
 
 judge-measures-requires : tie.Need-judge-measures-requires
 judge-measures-requires c κs = search needs
@@ -66,19 +62,15 @@ judge-slices-requires c κs =
 judge-dots-requires : tie.Need-judge-dots-requires
 judge-dots-requires c κs = search needs
 
+first-requires : tie.Need-first-requires
+first-requires c κs = search needs
+
 returns-2 : tie.Need-returns-2
 returns-2 c =
     let left = c .before .before .before in
     let slices = c .before .before .judge-slices in
-    by-slices _ _ _ _ _ _ _ (left .before .judge-measures .ensures) (left .if1 .left) (slices .ensures) (c .if2 .taken)
-
-returns-3 : tie.Need-returns-3
-returns-3 c =
-    let left = c .before .before .before in
-    let slices = c .before .before .judge-slices in
     let dots = c .before .judge-dots in
-    let measures = left .before .judge-measures in
-    by-dots _ _ _ _ _ _ _ (measures .ensures) (left .if1 .left) (slices .ensures) (c .if2 .left) (dots .ensures)
+    by-rest _ _ _ _ _ _ _ (left .before .judge-measures .ensures) (left .if1 .left) (slices .ensures) (dots .ensures) (c .first .ensures)
 
 pub judge-plate-spec : {M : Type 1} → statement M
 judge-plate-spec =
@@ -89,5 +81,5 @@ judge-plate-spec =
     mul-judge-slices
     judge-slices-requires
     judge-dots-requires
-    returns-2
-    returns-3)
+    first-requires
+    returns-2)
