@@ -1,5 +1,5 @@
--- Sums over an interval of ℤ: the shift, the split, and the window outside which a function is 0; then sums of products of
--- two such functions, one shifted against the other, and the largest that a sum over a grid can be.
+-- Sums over an interval of ℤ: the shift, the split, and the window outside which a function is 0. Then sums of
+-- products of two such functions, one shifted against the other, and the most that a sum over a grid can be.
 use mathlib.Core.Path.{_≡_, refl, sym, _∙_, ap, ap₂, subst}
 use mathlib.Core.List.{[], _∷_}
 use Prim.Native.Nat.{ℕ, suc, _+_, _*_, _-_, _<_}
@@ -83,12 +83,14 @@ sumFrom-window r d t f s =
     left : sumFrom a d f ≡ pos 0
     left =
         sum-zeros d (λ i h.
-        s .below (negℤ (pos r) -ℤ pos d +ℤ pos i) (show< (pos r ∷ pos d ∷ pos i ∷ []) (search reify depth 40) (omega arith)))
+        s .below (negℤ (pos r) -ℤ pos d +ℤ pos i)
+        (show< (pos r ∷ pos d ∷ pos i ∷ []) (search reify depth 40) (omega arith)))
 
     right : sumFrom (o +ℤ pos (2 * r + 1)) t f ≡ pos 0
     right =
         sum-zeros t (λ i h.
-        s .above (negℤ (pos r) +ℤ pos (2 * r + 1) +ℤ pos i) (show< (pos r ∷ pos i ∷ []) (search reify depth 40) (omega arith)))
+        s .above (negℤ (pos r) +ℤ pos (2 * r + 1) +ℤ pos i)
+        (show< (pos r ∷ pos i ∷ []) (search reify depth 40) (omega arith)))
 
 -- a product is 0 where its first factor is, and where its second is
 left-supported : (r : ℕ) (f g : ℤ → ℤ) → Supported r f → Supported r (λ k. f k *ℤ g k)
@@ -107,7 +109,8 @@ right-supported r f g s =
 
 -- Σ f(k) g(k + d) = Σ f(k - d) g(k), k over -r .. r
 pub correlate-turn : (r : ℕ) (d : ℤ) (f g : ℤ → ℤ) → Supported r f → Supported r g
-    → sumFrom (negℤ (pos r)) (2 * r + 1) (λ k. f k *ℤ g (k +ℤ d)) ≡ sumFrom (negℤ (pos r)) (2 * r + 1) (λ k. f (k -ℤ d) *ℤ g k)
+    → sumFrom (negℤ (pos r)) (2 * r + 1) (λ k. f k *ℤ g (k +ℤ d))
+    ≡ sumFrom (negℤ (pos r)) (2 * r + 1) (λ k. f (k -ℤ d) *ℤ g k)
 correlate-turn r d f g s t =
     sym (sumFrom-window r D D (λ k. f k *ℤ g (k +ℤ d)) (left-supported r f (λ k. g (k +ℤ d)) s))
     ∙ sumFrom-cong a (D + (2 * r + 1 + D)) (λ k. ap₂ (λ x y. f x *ℤ g y) (there k) (back k))
@@ -199,7 +202,8 @@ module _ (r : ℕ) (f : ℤ → ℤ → ℤ) (s : Supported2 r f) where
       none y e = sum-zeros (2 * r + 1) (λ i h. e (negℤ (pos r) +ℤ pos i))
 
   pub grid≤ : (H W : ℕ) (a b : ℤ) → ((y x : ℤ) → pos 0 ≤ℤ f y x)
-      → sumFrom a H (λ y. sumFrom b W (f y)) ≤ℤ sumFrom (negℤ (pos r)) (2 * r + 1) (λ y. sumFrom (negℤ (pos r)) (2 * r + 1) (f y))
+      → sumFrom a H (λ y. sumFrom b W (f y))
+      ≤ℤ sumFrom (negℤ (pos r)) (2 * r + 1) (λ y. sumFrom (negℤ (pos r)) (2 * r + 1) (f y))
   unfolding row-sum sumFrom
   grid≤ H W a b p =
       ≤ℤ-trans _ (sumFrom a H row-sum) _
@@ -208,7 +212,8 @@ module _ (r : ℕ) (f : ℤ → ℤ → ℤ) (s : Supported2 r f) where
 
   -- over a grid that covers the square: rows d before and t after it, columns u before and v after it
   pub grid-whole : (d t u v : ℕ)
-      → sumFrom (negℤ (pos r) -ℤ pos d) (d + (2 * r + 1 + t)) (λ y. sumFrom (negℤ (pos r) -ℤ pos u) (u + (2 * r + 1 + v)) (f y))
+      → sumFrom (negℤ (pos r) -ℤ pos d) (d + (2 * r + 1 + t)) (λ y.
+      sumFrom (negℤ (pos r) -ℤ pos u) (u + (2 * r + 1 + v)) (f y))
       ≡ sumFrom (negℤ (pos r)) (2 * r + 1) (λ y. sumFrom (negℤ (pos r)) (2 * r + 1) (f y))
   unfolding row-sum
   grid-whole d t u v =

@@ -1,3 +1,4 @@
+-- The laws of the integers, of finite sums, of the quadratic form and of machine numbers.
 pub mod Ring
 pub mod Solver
 pub mod Order

@@ -1,4 +1,5 @@
--- The order of ℤ read as an order of ℕ, for omega: z is pos (pp z) − pos (nn z), and an expression over atoms is up − dn.
+-- The order of ℤ read as an order of ℕ, for omega: z is pos (pp z) − pos (nn z), and an expression over atoms is
+-- up − dn. Then the sizes of integers, and the order of products and of sums.
 use mathlib.Core.Path.{_≡_, refl, sym, _∙_, ap, ap₂}
 use mathlib.Core.List.{List, [], _∷_}
 use Prim.Native.Nat.{ℕ, zero, suc, _+_, _*_, _≤_, _<_}
@@ -10,7 +11,7 @@ use lib.Signed.{_≤ℤ_, _<ℤ_, leZ, ltZ, mag}
 use Rattle.algebra.proofs.Ring.{+ℤ-cancel-r}
 use Rattle.algebra.proofs.Solver.{ring!, reify, Is, Ex, var, lit, _⊞_, _⊠_, ⊟, nthZ, den, quote, quote-is}
 
--- the positive and the negative part
+-- ---- the positive and the negative part
 abbrev pub pp : ℤ → ℕ
 pp (pos n) = n
 pp (negsuc n) = zero
@@ -45,6 +46,7 @@ up {ρ} r = upE ρ (quote r)
 abbrev pub dn : {ρ : List ℤ} {z : ℤ} → Is ρ z → ℕ
 dn {ρ} r = dnE ρ (quote r)
 
+-- sums, products and negations of differences
 sub-add : (a b c d : ℕ) → (pos a -ℤ pos b) +ℤ (pos c -ℤ pos d) ≡ pos (a + c) -ℤ pos (b + d)
 sub-add a b c d = ring! (pos a ∷ pos b ∷ pos c ∷ pos d ∷ []) (search reify depth 40 fits 9000) refl
 
@@ -83,6 +85,7 @@ crossed a b c d e = +ℤ-cancel-r (pos a -ℤ pos b) (pos c -ℤ pos d) (pos b +
     l′ : (c b d : ℕ) → (pos c -ℤ pos d) +ℤ (pos b +ℤ pos d) ≡ pos (c + b)
     l′ c b d = ring! (pos c ∷ pos b ∷ pos d ∷ []) (search reify depth 40 fits 9000) refl
 
+-- an integer's parts and those of an expression for it
 pub pn : {ρ : List ℤ} {z : ℤ} (r : Is ρ z) → pp z + dn r ≡ up r + nn z
 pn {z = z} r = cross (pp z) (nn z) (up r) (dn r) (sym (parts z) ∙ reads r)
 
@@ -117,7 +120,7 @@ lt← (pos a) (negsuc b) h = absurd (no a b h)
 lt← (negsuc a) (pos b) h = tt
 lt← (negsuc a) (negsuc b) h = lt→ltb b a (omega arith)
 
--- plain facts, rules for omega: they take a hypothesis `a ≤ℤ b` by themselves
+-- the same as rules for omega, which then finds a hypothesis `a ≤ℤ b` by itself
 pub ≤ℤ→ : {a b : ℤ} → a ≤ℤ b → pp a + nn b ≤ pp b + nn a
 ≤ℤ→ {a} {b} h = le→ a b (h .le)
 
@@ -165,6 +168,7 @@ natAbs-show ρ z {H} r h k = go z (pn r)
     go (pos n) e = omega arith
     go (negsuc n) e = omega arith
 
+-- of a negation, a product and a sum
 natAbs-neg : (n : ℕ) → natAbs (negℤ (pos n)) ≡ n
 natAbs-neg zero = refl
 natAbs-neg (suc n) = refl
@@ -180,11 +184,14 @@ natAbs-*ℤ (negsuc a) (pos b) = natAbs-neg (suc a * b)
 natAbs-*ℤ (negsuc a) (negsuc b) = refl
 
 pub natAbs-+ℤ : (a b : ℤ) → natAbs (a +ℤ b) ≤ natAbs a + natAbs b
-natAbs-+ℤ a b = natAbs-show (a ∷ b ∷ []) (a +ℤ b) (search reify) (omega (arith, natAbs-parts a, natAbs-parts b)) (omega (arith, natAbs-parts a, natAbs-parts b))
+natAbs-+ℤ a b =
+    natAbs-show (a ∷ b ∷ []) (a +ℤ b) (search reify)
+    (omega (arith, natAbs-parts a, natAbs-parts b)) (omega (arith, natAbs-parts a, natAbs-parts b))
 
 pub natAbs-mul-le : (a b : ℤ) {A B : ℕ} → natAbs a ≤ A → natAbs b ≤ B → natAbs (a *ℤ b) ≤ A * B
 natAbs-mul-le a b h k = rw (natAbs-*ℤ a b) (NatL.mul-le-mul h k)
 
+-- of an integer between bounds, and of one that is not negative
 pub natAbs-below : (z : ℤ) (k : ℕ) → pos 0 ≤ℤ z → z ≤ℤ pos k → natAbs z ≤ k
 natAbs-below (pos n) k h l = omega (arith, ordℤ)
 natAbs-below (negsuc n) k h l = absurd (h .le)
@@ -202,7 +209,7 @@ pub mag-natAbs : (z : ℤ) → mag z ≤ natAbs z
 mag-natAbs (pos n) = omega arith
 mag-natAbs (negsuc n) = omega arith
 
--- ---- the order's laws that omega does not give: products
+-- ---- the order of products
 nonneg-nn : (a : ℤ) → pos 0 ≤ℤ a → nn a ≡ zero
 nonneg-nn (pos n) h = refl
 nonneg-nn (negsuc n) h = absurd (h .le)
@@ -221,6 +228,7 @@ pub *ℤ-mono : (k a b : ℤ) → pos 0 ≤ℤ k → a ≤ℤ b → (k *ℤ a) �
     show≤ (k ∷ a ∷ b ∷ []) (search reify depth 40)
     (rw (nonneg-nn k h) (omega (arith, NatL.mul-le-mul-left (pp k) (≤ℤ→ l))))
 
+-- ---- the order of sums, and a chain
 pub +ℤ-mono : (a b c d : ℤ) → a ≤ℤ b → c ≤ℤ d → (a +ℤ c) ≤ℤ (b +ℤ d)
 +ℤ-mono a b c d h k = show≤ (a ∷ b ∷ c ∷ d ∷ []) (search reify depth 40) (omega (arith, ordℤ))
 

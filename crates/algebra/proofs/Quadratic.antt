@@ -1,5 +1,6 @@
--- The law of an edit: what a list of (cell, amount) adds to the transform and to the quadratic form of a symmetric kernel
--- (document 004, equations 13 and 21), with the cases of one and of two cells; and sums of squares as a quadratic form.
+-- The law of an edit (document 004, equations 13 and 21): what a list of cells, each with the amount it gains, adds to
+-- the transform and to the quadratic form of a symmetric kernel, with the cases of one cell and of two. Then a sum of
+-- squares of linear forms as a quadratic form.
 use mathlib.Core.Path.{_≡_, refl, sym, _∙_, ap, ap₂}
 use mathlib.Core.List.{List, [], _∷_}
 use Prim.Native.Nat.{ℕ, _<_}
@@ -8,10 +9,12 @@ use Rattle.algebra.proofs.Ring.{*ℤ-assoc, *ℤ-distr, *ℤ-distl}
 use Rattle.algebra.proofs.Solver.{ring!, reify}
 use Rattle.algebra.specs.Sum.{sumTo, sumOver}
 use Rattle.algebra.specs.Quadratic.{transform, bilinear, quadratic, Increment, Within, point, gained, edited}
-use Rattle.algebra.proofs.Sum.{sum-cong, sum-add, sum-scale, sum-scale-r, sum-swap, sum-nil, sum-mul, sum-point, sumOver-cong, sumOver-scale}
+use Rattle.algebra.proofs.Sum.{sum-cong, sum-nil, sum-add, sum-scale, sum-scale-r, sum-swap, sum-mul, sum-point}
+use Rattle.algebra.proofs.Sum.{sumOver-cong, sumOver-scale}
 
--- a sum against an edited is a sum over the edited's list
-pub sum-gained : (N : ℕ) (l : List Increment) (g : ℕ → ℤ) → Within N l → sumTo N (λ n. gained l n *ℤ g n) ≡ sumOver l (λ c. c .amount *ℤ g (c .cell))
+-- ---- what an edit gains: a sum weighed by it is a sum over the edit's list
+pub sum-gained : (N : ℕ) (l : List Increment) (g : ℕ → ℤ) → Within N l
+    → sumTo N (λ n. gained l n *ℤ g n) ≡ sumOver l (λ c. c .amount *ℤ g (c .cell))
 unfolding gained sumOver
 sum-gained N [] g w = sum-cong N (λ i h. zero-*ℤ (g i)) ∙ sum-nil N
 sum-gained N (c ∷ l) g w =
@@ -20,37 +23,48 @@ sum-gained N (c ∷ l) g w =
     ∙ ap₂ (λ x y. x +ℤ y) (sum-point N (c .cell) (c .amount) g (w .0)) (sum-gained N l g (w .1))
 
 module _ (C : ℕ → ℕ → ℤ) (N : ℕ) where
+  -- ---- the transform
   pub transform-add : (x y : ℕ → ℤ) (m : ℕ) → transform C N (λ n. x n +ℤ y n) m ≡ transform C N x m +ℤ transform C N y m
   unfolding transform
-  transform-add x y m = sum-cong N (λ i h. *ℤ-distl (C i m) (x i) (y i)) ∙ sum-add N (λ i. C i m *ℤ x i) (λ i. C i m *ℤ y i)
+  transform-add x y m =
+      sum-cong N (λ i h. *ℤ-distl (C i m) (x i) (y i))
+      ∙ sum-add N (λ i. C i m *ℤ x i) (λ i. C i m *ℤ y i)
 
-  pub transform-gained : (l : List Increment) (q : ℕ) → Within N l → transform C N (gained l) q ≡ sumOver l (λ c. c .amount *ℤ C (c .cell) q)
+  pub transform-gained : (l : List Increment) (q : ℕ) → Within N l
+      → transform C N (gained l) q ≡ sumOver l (λ c. c .amount *ℤ C (c .cell) q)
   unfolding transform
   transform-gained l q w = sum-cong N (λ i h. *ℤ-comm (C i q) (gained l i)) ∙ sum-gained N l (λ n. C n q) w
 
-  pub transform-edit : (x : ℕ → ℤ) (l : List Increment) (q : ℕ) → Within N l → transform C N (edited x l) q ≡ transform C N x q +ℤ sumOver l (λ c. c .amount *ℤ C (c .cell) q)
+  pub transform-edit : (x : ℕ → ℤ) (l : List Increment) (q : ℕ) → Within N l
+      → transform C N (edited x l) q ≡ transform C N x q +ℤ sumOver l (λ c. c .amount *ℤ C (c .cell) q)
   unfolding edited
   transform-edit x l q w = transform-add x (gained l) q ∙ ap (λ z. transform C N x q +ℤ z) (transform-gained l q w)
 
+  -- ---- the bilinear form
   bilinear-add-l : (x y z : ℕ → ℤ) → bilinear C N (λ n. x n +ℤ y n) z ≡ bilinear C N x z +ℤ bilinear C N y z
   unfolding bilinear
-  bilinear-add-l x y z = sum-cong N (λ i h. *ℤ-distr (x i) (y i) (transform C N z i)) ∙ sum-add N (λ i. x i *ℤ transform C N z i) (λ i. y i *ℤ transform C N z i)
+  bilinear-add-l x y z =
+      sum-cong N (λ i h. *ℤ-distr (x i) (y i) (transform C N z i))
+      ∙ sum-add N (λ i. x i *ℤ transform C N z i) (λ i. y i *ℤ transform C N z i)
 
   bilinear-add-r : (x y z : ℕ → ℤ) → bilinear C N x (λ n. y n +ℤ z n) ≡ bilinear C N x y +ℤ bilinear C N x z
   unfolding bilinear
   bilinear-add-r x y z =
-      sum-cong N (λ i h. ap (λ t. x i *ℤ t) (transform-add y z i) ∙ *ℤ-distl (x i) (transform C N y i) (transform C N z i))
+      sum-cong N (λ i h.
+      ap (λ t. x i *ℤ t) (transform-add y z i) ∙ *ℤ-distl (x i) (transform C N y i) (transform C N z i))
       ∙ sum-add N (λ i. x i *ℤ transform C N y i) (λ i. x i *ℤ transform C N z i)
 
-  bilinear-gained : (l : List Increment) (y : ℕ → ℤ) → Within N l → bilinear C N (gained l) y ≡ sumOver l (λ c. c .amount *ℤ transform C N y (c .cell))
+  bilinear-gained : (l : List Increment) (y : ℕ → ℤ) → Within N l
+      → bilinear C N (gained l) y ≡ sumOver l (λ c. c .amount *ℤ transform C N y (c .cell))
   unfolding bilinear
   bilinear-gained l y w = sum-gained N l (transform C N y) w
 
-  -- the double sum
+  -- as a double sum
   bilinear-flat : (x y : ℕ → ℤ) → bilinear C N x y ≡ sumTo N (λ m. sumTo N (λ n. x m *ℤ (C n m *ℤ y n)))
   unfolding bilinear transform
   bilinear-flat x y = sum-cong N (λ m h. sym (sum-scale N (x m) (λ n. C n m *ℤ y n)))
 
+  -- ---- a symmetric kernel
   module _ (symm : (m n : ℕ) → m < N → n < N → C m n ≡ C n m) where
     pub bilinear-comm : (x y : ℕ → ℤ) → bilinear C N x y ≡ bilinear C N y x
     bilinear-comm x y =
@@ -62,20 +76,26 @@ module _ (C : ℕ → ℕ → ℤ) (N : ℕ) where
         turn : (m n : ℕ) → m < N → n < N → x m *ℤ (C n m *ℤ y n) ≡ y n *ℤ (C m n *ℤ x m)
         turn m n h k = rw (symm n m k h) (ring! (x m ∷ C m n ∷ y n ∷ []) (search reify depth 40 fits 9000) refl)
 
+    -- the law of an edit
     pub quadratic-edit : (x : ℕ → ℤ) (l : List Increment) → Within N l
-        → quadratic C N (edited x l) ≡ quadratic C N x +ℤ pos 2 *ℤ sumOver l (λ c. c .amount *ℤ transform C N x (c .cell)) +ℤ sumOver l (λ c. sumOver l (λ d. c .amount *ℤ d .amount *ℤ C (d .cell) (c .cell)))
+        → quadratic C N (edited x l) ≡ quadratic C N x
+        +ℤ pos 2 *ℤ sumOver l (λ c. c .amount *ℤ transform C N x (c .cell))
+        +ℤ sumOver l (λ c. sumOver l (λ d. c .amount *ℤ d .amount *ℤ C (d .cell) (c .cell)))
     unfolding quadratic edited
     quadratic-edit x l w =
         bilinear-add-l x (gained l) (edited x l)
         ∙ ap₂ (λ a b. a +ℤ b) (bilinear-add-r x x (gained l)) (bilinear-add-r (gained l) x (gained l))
-        ∙ ap (λ z. bilinear C N x x +ℤ z +ℤ (bilinear C N (gained l) x +ℤ bilinear C N (gained l) (gained l))) (bilinear-comm x (gained l))
+        ∙ ap (λ z. bilinear C N x x +ℤ z +ℤ (bilinear C N (gained l) x +ℤ bilinear C N (gained l) (gained l)))
+        (bilinear-comm x (gained l))
         ∙ twice (bilinear C N x x) (bilinear C N (gained l) x) (bilinear C N (gained l) (gained l))
-        ∙ ap₂ (λ a b. bilinear C N x x +ℤ pos 2 *ℤ a +ℤ b) (bilinear-gained l x w) (bilinear-gained l (gained l) w ∙ sumOver-cong l inner)
+        ∙ ap₂ (λ a b. bilinear C N x x +ℤ pos 2 *ℤ a +ℤ b)
+        (bilinear-gained l x w) (bilinear-gained l (gained l) w ∙ sumOver-cong l inner)
       where
         twice : (a b c : ℤ) → a +ℤ b +ℤ (b +ℤ c) ≡ a +ℤ pos 2 *ℤ b +ℤ c
         twice a b c = ring! (a ∷ b ∷ c ∷ []) (search reify depth 40 fits 9000) refl
 
-        inner : (c : Increment) → c .amount *ℤ transform C N (gained l) (c .cell) ≡ sumOver l (λ d. c .amount *ℤ d .amount *ℤ C (d .cell) (c .cell))
+        inner : (c : Increment) → c .amount *ℤ transform C N (gained l) (c .cell)
+            ≡ sumOver l (λ d. c .amount *ℤ d .amount *ℤ C (d .cell) (c .cell))
         inner c =
             ap (λ z. c .amount *ℤ z) (transform-gained l (c .cell) w)
             ∙ sym (sumOver-scale l (c .amount) (λ d. d .amount *ℤ C (d .cell) (c .cell)))
@@ -83,33 +103,42 @@ module _ (C : ℕ → ℕ → ℤ) (N : ℕ) where
 
     -- one cell
     pub quadratic-edit-one : (x : ℕ → ℤ) (m : ℕ) (a : ℤ) → m < N
-        → quadratic C N (edited x (record { cell = m; amount = a } ∷ [])) ≡ quadratic C N x +ℤ pos 2 *ℤ (a *ℤ transform C N x m) +ℤ a *ℤ a *ℤ C m m
+        → quadratic C N (edited x (record { cell = m; amount = a } ∷ []))
+        ≡ quadratic C N x +ℤ pos 2 *ℤ (a *ℤ transform C N x m) +ℤ a *ℤ a *ℤ C m m
     unfolding sumOver
     quadratic-edit-one x m a h = quadratic-edit x (record { cell = m; amount = a } ∷ []) (h, tt) ∙ simp +ℤ-idr
 
     -- two cells
     pub quadratic-edit-two : (x : ℕ → ℤ) (m n : ℕ) (a b : ℤ) → m < N → n < N
         → quadratic C N (edited x (record { cell = m; amount = a } ∷ record { cell = n; amount = b } ∷ []))
-        ≡ quadratic C N x +ℤ pos 2 *ℤ (a *ℤ transform C N x m +ℤ b *ℤ transform C N x n) +ℤ (a *ℤ a *ℤ C m m +ℤ pos 2 *ℤ (a *ℤ b *ℤ C m n) +ℤ b *ℤ b *ℤ C n n)
+        ≡ quadratic C N x +ℤ pos 2 *ℤ (a *ℤ transform C N x m +ℤ b *ℤ transform C N x n)
+        +ℤ (a *ℤ a *ℤ C m m +ℤ pos 2 *ℤ (a *ℤ b *ℤ C m n) +ℤ b *ℤ b *ℤ C n n)
     unfolding sumOver
     quadratic-edit-two x m n a b h k =
         quadratic-edit x (record { cell = m; amount = a } ∷ record { cell = n; amount = b } ∷ []) (h, (k, tt))
-        ∙ rw (symm n m k h) (ring! (quadratic C N x ∷ a ∷ b ∷ transform C N x m ∷ transform C N x n ∷ C m m ∷ C m n ∷ C n n ∷ []) (search reify depth 40 fits 9000) refl)
+        ∙ rw (symm n m k h)
+        (ring! (quadratic C N x ∷ a ∷ b ∷ transform C N x m ∷ transform C N x n ∷ C m m ∷ C m n ∷ C n n ∷ [])
+        (search reify depth 40 fits 9000) refl)
 
 -- ---- the form is linear in the kernel, and a square of a linear form is a quadratic form
-pub quadratic-cong : (N : ℕ) (C D : ℕ → ℕ → ℤ) (e : ℕ → ℤ) → ((m n : ℕ) → m < N → n < N → C m n ≡ D m n) → quadratic C N e ≡ quadratic D N e
+pub quadratic-cong : (N : ℕ) (C D : ℕ → ℕ → ℤ) (e : ℕ → ℤ)
+    → ((m n : ℕ) → m < N → n < N → C m n ≡ D m n)
+    → quadratic C N e ≡ quadratic D N e
 unfolding quadratic bilinear transform
 quadratic-cong N C D e h = sum-cong N (λ m k. ap (λ z. e m *ℤ z) (sum-cong N (λ n l. ap (λ z. z *ℤ e n) (h n m l k))))
 
-pub quadratic-sum : (K N : ℕ) (C : ℕ → ℕ → ℕ → ℤ) (e : ℕ → ℤ) → sumTo K (λ y. quadratic (C y) N e) ≡ quadratic (λ m n. sumTo K (λ y. C y m n)) N e
+pub quadratic-sum : (K N : ℕ) (C : ℕ → ℕ → ℕ → ℤ) (e : ℕ → ℤ)
+    → sumTo K (λ y. quadratic (C y) N e) ≡ quadratic (λ m n. sumTo K (λ y. C y m n)) N e
 unfolding quadratic bilinear transform
 quadratic-sum K N C e =
     sum-swap K N (λ y m. e m *ℤ sumTo N (λ n. C y n m *ℤ e n))
     ∙ sum-cong N (λ m h.
     sum-scale K (e m) (λ y. sumTo N (λ n. C y n m *ℤ e n))
-    ∙ ap (λ z. e m *ℤ z) (sum-swap K N (λ y n. C y n m *ℤ e n) ∙ sum-cong N (λ n k. sum-scale-r K (λ y. C y n m) (e n))))
+    ∙ ap (λ z. e m *ℤ z)
+    (sum-swap K N (λ y n. C y n m *ℤ e n) ∙ sum-cong N (λ n k. sum-scale-r K (λ y. C y n m) (e n))))
 
-pub quadratic-square : (N : ℕ) (φ e : ℕ → ℤ) → sumTo N (λ n. e n *ℤ φ n) *ℤ sumTo N (λ n. e n *ℤ φ n) ≡ quadratic (λ m n. φ m *ℤ φ n) N e
+pub quadratic-square : (N : ℕ) (φ e : ℕ → ℤ)
+    → sumTo N (λ n. e n *ℤ φ n) *ℤ sumTo N (λ n. e n *ℤ φ n) ≡ quadratic (λ m n. φ m *ℤ φ n) N e
 unfolding quadratic bilinear transform
 quadratic-square N φ e =
     sum-mul N N (λ n. e n *ℤ φ n) (λ n. e n *ℤ φ n)
@@ -123,5 +152,6 @@ pub gram : (K L N : ℕ) (φ : ℕ → ℕ → ℕ → ℤ) (e : ℕ → ℤ)
     → sumTo K (λ y. sumTo L (λ x. sumTo N (λ n. e n *ℤ φ y x n) *ℤ sumTo N (λ n. e n *ℤ φ y x n)))
     ≡ quadratic (λ m n. sumTo K (λ y. sumTo L (λ x. φ y x m *ℤ φ y x n))) N e
 gram K L N φ e =
-    sum-cong K (λ y h. sum-cong L (λ x k. quadratic-square N (φ y x) e) ∙ quadratic-sum L N (λ x m n. φ y x m *ℤ φ y x n) e)
+    sum-cong K (λ y h.
+    sum-cong L (λ x k. quadratic-square N (φ y x) e) ∙ quadratic-sum L N (λ x m n. φ y x m *ℤ φ y x n) e)
     ∙ quadratic-sum K N (λ y m n. sumTo L (λ x. φ y x m *ℤ φ y x n)) e

@@ -1,5 +1,5 @@
 -- A solver for ring identities of ℤ: both sides are read as expressions over a list of atoms, brought to a sorted
--- polynomial with integer coefficients, and compared by `refl`. Used as
+-- polynomial with integer coefficients, and compared by `refl`. It is used as
 --   ring! (a ∷ b ∷ []) (search reify depth 40) refl
 use mathlib.Core.Path.{_≡_, refl, sym, _∙_, ap, ap₂}
 use mathlib.Core.List.{List, [], _∷_}
@@ -31,7 +31,7 @@ den ρ (a ⊞ b) = den ρ a +ℤ den ρ b
 den ρ (a ⊠ b) = den ρ a *ℤ den ρ b
 den ρ (⊟ a) = negℤ (den ρ a)
 
--- ---- polynomials: a coefficient and a sorted list of variables for each term, the terms sorted
+-- ---- polynomials: a coefficient and a monomial, a sorted list of variables, for each term; the terms sorted
 pub data Poly : Type 0 where
   nil : Poly
   term : ℤ → List ℕ → Poly → Poly
@@ -44,6 +44,7 @@ abbrev pub evP : List ℤ → Poly → ℤ
 evP ρ nil = pos zero
 evP ρ (term c m p) = c *ℤ evM ρ m +ℤ evP ρ p
 
+-- ---- the order of monomials
 abbrev pub then : Ordering → Ordering → Ordering
 then Ordering·lt o = Ordering·lt
 then Ordering·eq o = o
@@ -69,9 +70,12 @@ cmpM-eq : (m n : List ℕ) → T (isEq (cmpM m n)) → m ≡ n
 cmpM-eq [] [] t = refl
 cmpM-eq [] (j ∷ n) t = absurd t
 cmpM-eq (i ∷ m) [] t = absurd t
-cmpM-eq (i ∷ m) (j ∷ n) t = ap₂ (λ x y. x ∷ y) (eqb→eq i j (then-l (compare i j) (cmpM m n) t)) (cmpM-eq m n (then-r (compare i j) (cmpM m n) t))
+cmpM-eq (i ∷ m) (j ∷ n) t =
+    ap₂ (λ x y. x ∷ y)
+    (eqb→eq i j (then-l (compare i j) (cmpM m n) t))
+    (cmpM-eq m n (then-r (compare i j) (cmpM m n) t))
 
--- a variable into a monomial
+-- ---- products of monomials: a variable is put at its place
 abbrev pub putM : Bool → ℕ → ℕ → List ℕ → List ℕ → List ℕ
 putM true i j m r = i ∷ j ∷ m
 putM false i j m r = j ∷ r
@@ -84,8 +88,10 @@ abbrev pub mulM : List ℕ → List ℕ → List ℕ
 mulM [] n = n
 mulM (i ∷ m) n = insM i (mulM m n)
 
+-- what a product of monomials comes to
 module _ (ρ : List ℤ) where
-  ev-put : (b : Bool) (i j : ℕ) (m r : List ℕ) → evM ρ r ≡ nthZ ρ i *ℤ evM ρ m → evM ρ (putM b i j m r) ≡ nthZ ρ i *ℤ (nthZ ρ j *ℤ evM ρ m)
+  ev-put : (b : Bool) (i j : ℕ) (m r : List ℕ) → evM ρ r ≡ nthZ ρ i *ℤ evM ρ m
+      → evM ρ (putM b i j m r) ≡ nthZ ρ i *ℤ (nthZ ρ j *ℤ evM ρ m)
   ev-put true i j m r e = refl
   ev-put false i j m r e = ap (λ x. nthZ ρ j *ℤ x) e ∙ *ℤ-left-comm (nthZ ρ j) (nthZ ρ i) (evM ρ m)
 
@@ -95,9 +101,11 @@ module _ (ρ : List ℤ) where
 
   ev-mulM : (m n : List ℕ) → evM ρ (mulM m n) ≡ evM ρ m *ℤ evM ρ n
   ev-mulM [] n = sym (one-*ℤ (evM ρ n))
-  ev-mulM (i ∷ m) n = ev-ins i (mulM m n) ∙ ap (λ x. nthZ ρ i *ℤ x) (ev-mulM m n) ∙ sym (*ℤ-assoc (nthZ ρ i) (evM ρ m) (evM ρ n))
+  ev-mulM (i ∷ m) n =
+      ev-ins i (mulM m n) ∙ ap (λ x. nthZ ρ i *ℤ x) (ev-mulM m n)
+      ∙ sym (*ℤ-assoc (nthZ ρ i) (evM ρ m) (evM ρ n))
 
--- a term into a polynomial
+-- ---- polynomials: a term is put at its place, and dropped where its coefficient is 0
 abbrev pub termz : ℤ → List ℕ → Poly → Poly
 termz (pos zero) m p = p
 termz (pos (suc k)) m p = term (pos (suc k)) m p
@@ -128,6 +136,7 @@ abbrev pub negP : Poly → Poly
 negP nil = nil
 negP (term c m p) = term (negℤ c) m (negP p)
 
+-- the polynomial of an expression
 abbrev pub norm : Ex → Poly
 norm (var i) = term (pos 1) (i ∷ []) nil
 norm (lit k) = termz k [] nil
@@ -135,17 +144,23 @@ norm (a ⊞ b) = addP (norm a) (norm b)
 norm (a ⊠ b) = mulP (norm a) (norm b)
 norm (⊟ a) = negP (norm a)
 
+-- ---- the value of a polynomial is that of its expression
 module _ (ρ : List ℤ) where
   ev-termz : (c : ℤ) (m : List ℕ) (p : Poly) → evP ρ (termz c m p) ≡ c *ℤ evM ρ m +ℤ evP ρ p
   ev-termz (pos zero) m p = sym (ap (λ x. x +ℤ evP ρ p) (zero-*ℤ (evM ρ m)) ∙ +ℤ-idl (evP ρ p))
   ev-termz (pos (suc k)) m p = refl
   ev-termz (negsuc k) m p = refl
 
-  ev-putT : (o : Ordering) (c : ℤ) (m : List ℕ) (d : ℤ) (n : List ℕ) (p r : Poly) → (T (isEq o) → m ≡ n) → evP ρ r ≡ c *ℤ evM ρ m +ℤ evP ρ p
+  ev-putT : (o : Ordering) (c : ℤ) (m : List ℕ) (d : ℤ) (n : List ℕ) (p r : Poly)
+      → (T (isEq o) → m ≡ n) → evP ρ r ≡ c *ℤ evM ρ m +ℤ evP ρ p
       → evP ρ (putT o c m d n p r) ≡ c *ℤ evM ρ m +ℤ (d *ℤ evM ρ n +ℤ evP ρ p)
   ev-putT Ordering·lt c m d n p r f e = refl
-  ev-putT Ordering·eq c m d n p r f e = rw (f tt) (ev-termz (c +ℤ d) n p ∙ ap (λ x. x +ℤ evP ρ p) (*ℤ-distr c d (evM ρ n)) ∙ +ℤ-assoc (c *ℤ evM ρ n) (d *ℤ evM ρ n) (evP ρ p))
-  ev-putT Ordering·gt c m d n p r f e = ap (λ x. d *ℤ evM ρ n +ℤ x) e ∙ +ℤ-left-comm (d *ℤ evM ρ n) (c *ℤ evM ρ m) (evP ρ p)
+  ev-putT Ordering·eq c m d n p r f e =
+      rw (f tt)
+      (ev-termz (c +ℤ d) n p ∙ ap (λ x. x +ℤ evP ρ p) (*ℤ-distr c d (evM ρ n))
+      ∙ +ℤ-assoc (c *ℤ evM ρ n) (d *ℤ evM ρ n) (evP ρ p))
+  ev-putT Ordering·gt c m d n p r f e =
+      ap (λ x. d *ℤ evM ρ n +ℤ x) e ∙ +ℤ-left-comm (d *ℤ evM ρ n) (c *ℤ evM ρ m) (evP ρ p)
 
   ev-addT : (c : ℤ) (m : List ℕ) (p : Poly) → evP ρ (addT c m p) ≡ c *ℤ evM ρ m +ℤ evP ρ p
   ev-addT c m nil = ev-termz c m nil
@@ -153,7 +168,9 @@ module _ (ρ : List ℤ) where
 
   ev-addP : (p q : Poly) → evP ρ (addP p q) ≡ evP ρ p +ℤ evP ρ q
   ev-addP nil q = sym (+ℤ-idl (evP ρ q))
-  ev-addP (term c m p) q = ev-addT c m (addP p q) ∙ ap (λ x. c *ℤ evM ρ m +ℤ x) (ev-addP p q) ∙ sym (+ℤ-assoc (c *ℤ evM ρ m) (evP ρ p) (evP ρ q))
+  ev-addP (term c m p) q =
+      ev-addT c m (addP p q) ∙ ap (λ x. c *ℤ evM ρ m +ℤ x) (ev-addP p q)
+      ∙ sym (+ℤ-assoc (c *ℤ evM ρ m) (evP ρ p) (evP ρ q))
 
   ev-mulT : (c : ℤ) (m : List ℕ) (p r : Poly) → evP ρ (mulT c m p r) ≡ (c *ℤ evM ρ m) *ℤ evP ρ p +ℤ evP ρ r
   ev-mulT c m nil r = sym (ap (λ x. x +ℤ evP ρ r) (*ℤ-zero (c *ℤ evM ρ m)) ∙ +ℤ-idl (evP ρ r))
@@ -167,7 +184,9 @@ module _ (ρ : List ℤ) where
 
   ev-mulP : (p q : Poly) → evP ρ (mulP p q) ≡ evP ρ p *ℤ evP ρ q
   ev-mulP nil q = sym (zero-*ℤ (evP ρ q))
-  ev-mulP (term c m p) q = ev-mulT c m q (mulP p q) ∙ ap (λ x. (c *ℤ evM ρ m) *ℤ evP ρ q +ℤ x) (ev-mulP p q) ∙ sym (*ℤ-distr (c *ℤ evM ρ m) (evP ρ p) (evP ρ q))
+  ev-mulP (term c m p) q =
+      ev-mulT c m q (mulP p q) ∙ ap (λ x. (c *ℤ evM ρ m) *ℤ evP ρ q +ℤ x) (ev-mulP p q)
+      ∙ sym (*ℤ-distr (c *ℤ evM ρ m) (evP ρ p) (evP ρ q))
 
   ev-negP : (p : Poly) → evP ρ (negP p) ≡ negℤ (evP ρ p)
   ev-negP nil = refl

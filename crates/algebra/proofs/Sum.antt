@@ -12,6 +12,7 @@ use Rattle.algebra.specs.Sum.{sumTo, sumOver}
 use Rattle.algebra.specs.Quadratic.{point}
 use Rattle.algebra.proofs.Ring.{+ℤ-swap4, *ℤ-distl}
 
+-- ---- one term more, and terms that are equal
 pub sumTo-suc : (n : ℕ) (f : ℕ → ℤ) → sumTo (suc n) f ≡ sumTo n f +ℤ f n
 unfolding sumTo
 sumTo-suc n f = refl
@@ -21,15 +22,16 @@ unfolding sumTo
 sum-cong zero h = refl
 sum-cong (suc n) h = ap₂ (λ x y. x +ℤ y) (sum-cong n (λ i k. h i (omega arith))) (h n (omega arith))
 
+-- ---- a sum of which every term is 0
 pub sum-nil : (n : ℕ) → sumTo n (λ i. pos zero) ≡ pos zero
 unfolding sumTo
 sum-nil zero = refl
 sum-nil (suc n) = ap (λ x. x +ℤ pos zero) (sum-nil n)
 
--- a sum of which every term is 0
 pub sum-zeros : (n : ℕ) {f : ℕ → ℤ} → ((i : ℕ) → i < n → f i ≡ pos zero) → sumTo n f ≡ pos zero
 sum-zeros n h = sum-cong n h ∙ sum-nil n
 
+-- ---- linearity
 pub sum-add : (n : ℕ) (f g : ℕ → ℤ) → sumTo n (λ i. f i +ℤ g i) ≡ sumTo n f +ℤ sumTo n g
 unfolding sumTo
 sum-add zero f g = refl
@@ -48,6 +50,7 @@ unfolding sumTo
 sum-neg zero f = refl
 sum-neg (suc n) f = ap (λ x. x +ℤ negℤ (f n)) (sum-neg n f) ∙ sym (negℤ-+ℤ (sumTo n f) (f n))
 
+-- ---- two sums exchanged, a sum split, and a product of two sums
 pub sum-swap : (m n : ℕ) (f : ℕ → ℕ → ℤ) → sumTo m (λ i. sumTo n (λ j. f i j)) ≡ sumTo n (λ j. sumTo m (λ i. f i j))
 unfolding sumTo
 sum-swap zero n f = sym (sum-nil n)
@@ -56,7 +59,10 @@ sum-swap (suc m) n f = ap (λ x. x +ℤ sumTo n (f m)) (sum-swap m n f) ∙ sym 
 pub sum-split : (m n : ℕ) (f : ℕ → ℤ) → sumTo (m + n) f ≡ sumTo m f +ℤ sumTo n (λ i. f (m + i))
 unfolding sumTo
 sum-split m zero f = rw (NatL.add-zero m) (sym (+ℤ-idr (sumTo m f)))
-sum-split m (suc n) f = rw (NatL.add-suc m n) (ap (λ x. x +ℤ f (m + n)) (sum-split m n f) ∙ +ℤ-assoc (sumTo m f) (sumTo n (λ i. f (m + i))) (f (m + n)))
+sum-split m (suc n) f =
+    rw (NatL.add-suc m n)
+    (ap (λ x. x +ℤ f (m + n)) (sum-split m n f)
+    ∙ +ℤ-assoc (sumTo m f) (sumTo n (λ i. f (m + i))) (f (m + n)))
 
 pub sum-mul : (m n : ℕ) (f g : ℕ → ℤ) → sumTo m f *ℤ sumTo n g ≡ sumTo m (λ i. sumTo n (λ j. f i *ℤ g j))
 sum-mul m n f g = sym (sum-cong m (λ i h. sum-scale n (f i) g) ∙ sum-scale-r m f (sumTo n g))
@@ -78,15 +84,20 @@ pub point-other : (k : ℕ) (a : ℤ) (i : ℕ) → (i ≡ k → ⊥) → point 
 unfolding point
 point-other k a i h = cond-no (eqb i k) a (pos zero) (λ t. h (eqb→eq i k t))
 
--- a sum of which only the term k is not 0
+-- ---- a sum of which only the term k is not 0
 pub sum-one : (n k : ℕ) (f : ℕ → ℤ) → k < n → ((i : ℕ) → i < n → (i ≡ k → ⊥) → f i ≡ pos zero) → sumTo n f ≡ f k
 unfolding sumTo
 sum-one zero k f h z = absurd (NatL.not-suc-le-zero h)
 sum-one (suc n) k f h z = go (ℕ-discrete n k) (sum-one n k f)
   where
-    go : Dec (n ≡ k) → (k < n → ((i : ℕ) → i < n → (i ≡ k → ⊥) → f i ≡ pos zero) → sumTo n f ≡ f k) → sumTo n f +ℤ f n ≡ f k
-    go (yes e) ih = ap (λ x. x +ℤ f n) (sum-zeros n (λ i l. z i (omega arith) (λ q. omega arith))) ∙ +ℤ-idl (f n) ∙ ap f e
-    go (no d) ih = ap₂ (λ x y. x +ℤ y) (ih (omega arith) (λ i l q. z i (omega arith) q)) (z n (omega arith) d) ∙ +ℤ-idr (f k)
+    go : Dec (n ≡ k) → (k < n → ((i : ℕ) → i < n → (i ≡ k → ⊥) → f i ≡ pos zero) → sumTo n f ≡ f k)
+        → sumTo n f +ℤ f n ≡ f k
+    go (yes e) ih =
+        ap (λ x. x +ℤ f n) (sum-zeros n (λ i l. z i (omega arith) (λ q. omega arith)))
+        ∙ +ℤ-idl (f n) ∙ ap f e
+    go (no d) ih =
+        ap₂ (λ x y. x +ℤ y) (ih (omega arith) (λ i l q. z i (omega arith) q)) (z n (omega arith) d)
+        ∙ +ℤ-idr (f k)
 
 pub sum-point : (n k : ℕ) (a : ℤ) (g : ℕ → ℤ) → k < n → sumTo n (λ i. point k a i *ℤ g i) ≡ a *ℤ g k
 sum-point n k a g h =
@@ -103,14 +114,19 @@ module _ {A : Type 0} where
   pub sumOver-add : (l : List A) (f g : A → ℤ) → sumOver l (λ c. f c +ℤ g c) ≡ sumOver l f +ℤ sumOver l g
   unfolding sumOver
   sumOver-add [] f g = refl
-  sumOver-add (c ∷ l) f g = ap (λ x. f c +ℤ g c +ℤ x) (sumOver-add l f g) ∙ +ℤ-swap4 (f c) (g c) (sumOver l f) (sumOver l g)
+  sumOver-add (c ∷ l) f g =
+      ap (λ x. f c +ℤ g c +ℤ x) (sumOver-add l f g)
+      ∙ +ℤ-swap4 (f c) (g c) (sumOver l f) (sumOver l g)
 
   pub sumOver-scale : (l : List A) (a : ℤ) (f : A → ℤ) → sumOver l (λ c. a *ℤ f c) ≡ a *ℤ sumOver l f
   unfolding sumOver
   sumOver-scale [] a f = sym (*ℤ-zero a)
   sumOver-scale (c ∷ l) a f = ap (λ x. a *ℤ f c +ℤ x) (sumOver-scale l a f) ∙ sym (*ℤ-distl a (f c) (sumOver l f))
 
-  pub sumOver-swap : (n : ℕ) (l : List A) (f : ℕ → A → ℤ) → sumTo n (λ i. sumOver l (λ c. f i c)) ≡ sumOver l (λ c. sumTo n (λ i. f i c))
+  pub sumOver-swap : (n : ℕ) (l : List A) (f : ℕ → A → ℤ)
+      → sumTo n (λ i. sumOver l (λ c. f i c)) ≡ sumOver l (λ c. sumTo n (λ i. f i c))
   unfolding sumOver
   sumOver-swap n [] f = sum-nil n
-  sumOver-swap n (c ∷ l) f = sum-add n (λ i. f i c) (λ i. sumOver l (f i)) ∙ ap (λ x. sumTo n (λ i. f i c) +ℤ x) (sumOver-swap n l f)
+  sumOver-swap n (c ∷ l) f =
+      sum-add n (λ i. f i c) (λ i. sumOver l (f i))
+      ∙ ap (λ x. sumTo n (λ i. f i c) +ℤ x) (sumOver-swap n l f)

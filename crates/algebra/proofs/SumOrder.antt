@@ -1,4 +1,4 @@
--- The order of sums, their sizes, and sums over the cells of a grid.
+-- Finite sums of integers: their order, their sizes, and sums over the cells of a grid.
 use mathlib.Core.Path.{_≡_, sym, _∙_, ap, ap₂, subst}
 use mathlib.Core.List.{[], _∷_}
 use Prim.Native.Nat.{ℕ, zero, suc, _+_, _*_, _-_, _/_, _%_, _≤_, _<_}
@@ -15,12 +15,16 @@ use Rattle.algebra.proofs.Sum.{sum-cong, sum-split}
 pub sum-mono : (n : ℕ) (f g : ℕ → ℤ) → ((i : ℕ) → i < n → f i ≤ℤ g i) → sumTo n f ≤ℤ sumTo n g
 unfolding sumTo
 sum-mono zero f g h = ≤ℤ-refl (pos 0)
-sum-mono (suc n) f g h = +ℤ-mono (sumTo n f) (sumTo n g) (f n) (g n) (sum-mono n f g (λ i k. h i (omega arith))) (h n (omega arith))
+sum-mono (suc n) f g h =
+    +ℤ-mono (sumTo n f) (sumTo n g) (f n) (g n)
+    (sum-mono n f g (λ i k. h i (omega arith))) (h n (omega arith))
 
 pub sum-nonneg : (n : ℕ) (f : ℕ → ℤ) → ((i : ℕ) → i < n → pos 0 ≤ℤ f i) → pos 0 ≤ℤ sumTo n f
 unfolding sumTo
 sum-nonneg zero f h = ≤ℤ-refl (pos 0)
-sum-nonneg (suc n) f h = +ℤ-mono (pos 0) (sumTo n f) (pos 0) (f n) (sum-nonneg n f (λ i k. h i (omega arith))) (h n (omega arith))
+sum-nonneg (suc n) f h =
+    +ℤ-mono (pos 0) (sumTo n f) (pos 0) (f n)
+    (sum-nonneg n f (λ i k. h i (omega arith))) (h n (omega arith))
 
 pub natAbs-sum : (n : ℕ) (f : ℕ → ℤ) (B : ℕ) → ((i : ℕ) → i < n → natAbs (f i) ≤ B) → natAbs (sumTo n f) ≤ n * B
 unfolding sumTo

@@ -1,4 +1,5 @@
--- The quadratic form of a kernel over the cells 0 .. N - 1, and an edit: a list of cells, each with the amount it gains.
+-- The quadratic form of a kernel over the cells 0 .. N - 1, and an edit: a list of cells, each with the amount it
+-- gains.
 use mathlib.Core.Bool.{cond}
 use mathlib.Core.List.{List, [], _∷_}
 use Prim.Native.Nat.{ℕ, _<_}

@@ -1,5 +1,5 @@
--- What the judges' proofs share: the definitions over a list of bytes, read from an index on as a loop does, a product that
--- fits, and the laws by which a return is read off its tests.
+-- What the proofs of the judges share: the sum of a list of bytes and whether one is above a bound, each from an index
+-- on as a loop takes them; a product that fits; and the laws by which a return is read off its tests.
 use mathlib.Core.Bool.{true}
 use mathlib.Core.List.{List}
 use mathlib.Core.Path.{_≡_}

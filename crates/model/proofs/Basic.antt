@@ -1,4 +1,5 @@
--- Laws of the general words: a choice, a list by its entries, a list that a loop fills, and a square inside and outside.
+-- Laws of the general definitions: a choice, a list by its entries, a list that a loop fills, and an entry of a square,
+-- inside it and outside.
 use mathlib.Core.Path.{_≡_, refl, sym, _∙_, ap, ap₂}
 use mathlib.Core.Bool.{Bool, true, false}
 use mathlib.Core.Logic.{_⊎_, inl, inr}
@@ -39,7 +40,9 @@ getD-tabulate (suc n) f i z h = go (ℕ-discrete i n) (getD-tabulate n f i z)
   where
     go : Dec (i ≡ n) → (i < n → getD (tabulate n f) i z ≡ f i) → getD (tabulate n f ++ (f n ∷ [])) i z ≡ f i
     go (yes e) ih = rw e (getD-at (tabulate n f) (f n) [] z n (length-tabulate n f))
-    go (no e) ih = List·getD-append (tabulate n f) (f n ∷ []) z i (rw (length-tabulate n f) (omega arith)) ∙ ih (omega arith)
+    go (no e) ih =
+        List·getD-append (tabulate n f) (f n ∷ []) z i (rw (length-tabulate n f) (omega arith))
+        ∙ ih (omega arith)
 
 -- a list of n entries that are those of f
 pub tabulate-by {ℓ} : {A : Type ℓ} (z : A) (n : ℕ) (f : ℕ → A) (l : List A) → length l ≡ n
@@ -103,7 +106,9 @@ module _ {A : Type 0} (z : A) (n : ℕ) (l : List A) where
 
   column-after : (y x : ℤ) → pos n ≤ℤ x → gridAt z n l y x ≡ z
   unfolding gridAt
-  column-after (pos y) (pos i) h = rw (pick-no (ltb i n) (getD l (y * n + i) z) z (over i (leb→le n i (h .le)))) (same (ltb y n))
+  column-after (pos y) (pos i) h =
+      rw (pick-no (ltb i n) (getD l (y * n + i) z) z (over i (leb→le n i (h .le))))
+      (same (ltb y n))
   column-after (pos y) (negsuc i) h = refl
   column-after (negsuc y) x h = refl
 
@@ -112,10 +117,14 @@ module _ {A : Type 0} (z : A) (n : ℕ) (l : List A) where
   grid-inside i j h k = pick-yes (ltb i n) _ z (lt→ltb i n h) ∙ pick-yes (ltb j n) _ z (lt→ltb j n k)
 
 low : (r : ℕ) (y : ℤ) → y <ℤ negℤ (pos r) → (y +ℤ pos r) <ℤ pos 0
-low r y h = show< (y ∷ pos r ∷ []) (search reify depth 40) (omega (arith, read< (y ∷ pos r ∷ []) (search reify depth 40) h))
+low r y h =
+    show< (y ∷ pos r ∷ []) (search reify depth 40)
+    (omega (arith, read< (y ∷ pos r ∷ []) (search reify depth 40) h))
 
 high : (r : ℕ) (y : ℤ) → pos r <ℤ y → pos (2 * r + 1) ≤ℤ (y +ℤ pos r)
-high r y h = show≤ (y ∷ pos r ∷ []) (search reify depth 40) (omega (arith, read< (y ∷ pos r ∷ []) (search reify depth 40) h))
+high r y h =
+    show≤ (y ∷ pos r ∷ []) (search reify depth 40)
+    (omega (arith, read< (y ∷ pos r ∷ []) (search reify depth 40) h))
 
 -- outside: above, below, left and right of it
 module _ {A : Type 0} (z : A) (r : ℕ) (l : List A) (dy dx : ℤ) where
@@ -149,7 +158,8 @@ module _ {A : Type 0} (z : A) (r : ℕ) (l : List A) (row col y x : ℕ) where
   pub squareAt-inside : row ≤ y + r → y ≤ row + r → col ≤ x + r → x ≤ col + r
       → squareAt z r l (pos y -ℤ pos row) (pos x -ℤ pos col) ≡ getD l ((y + r - row) * (2 * r + 1) + (x + r - col)) z
   squareAt-inside a b c d =
-      square-inside z r l _ _ (y + r - row) (x + r - col) (counted y row a) (counted x col c) (omega arith) (omega arith)
+      square-inside z r l _ _ (y + r - row) (x + r - col) (counted y row a) (counted x col c)
+      (omega arith) (omega arith)
     where
       counted : (y a : ℕ) → a ≤ y + r → pos y -ℤ pos a +ℤ pos r ≡ pos (y + r - a)
       counted y a h = show≡ (pos y ∷ pos a ∷ pos r ∷ pos (y + r - a) ∷ []) (search reify depth 40) (omega arith)
@@ -202,16 +212,19 @@ place r d = go (d +ℤ pos r) refl
     at : (i : ℕ) → d +ℤ pos r ≡ pos i → Dec (i < 2 * r + 1) → Place r d
     at i e (yes h) = within i h e
     at i e (no h) =
-        after (show< (d ∷ pos r ∷ []) (search reify depth 40) (omega (arith, read≡ (d ∷ pos r ∷ pos i ∷ []) (search reify depth 40) e)))
+        after (show< (d ∷ pos r ∷ []) (search reify depth 40)
+        (omega (arith, read≡ (d ∷ pos r ∷ pos i ∷ []) (search reify depth 40) e)))
 
     go : (z : ℤ) → d +ℤ pos r ≡ z → Place r d
     go (pos i) e = at i e (decLt i (2 * r + 1))
     go (negsuc i) e =
-        before (show< (d ∷ pos r ∷ []) (search reify depth 40) (omega (arith, read≡ (d ∷ pos r ∷ negsuc i ∷ []) (search reify depth 40) e)))
+        before (show< (d ∷ pos r ∷ []) (search reify depth 40)
+        (omega (arith, read≡ (d ∷ pos r ∷ negsuc i ∷ []) (search reify depth 40) e)))
 
 -- a square that holds f inside, where f is 0 outside, holds f at every offset
 pub square-by : (r : ℕ) (l : List ℤ) (f : ℤ → ℤ → ℤ) → Supported2 r f
-    → ((i j : ℕ) → i < 2 * r + 1 → j < 2 * r + 1 → getD l (i * (2 * r + 1) + j) (pos 0) ≡ f (pos i -ℤ pos r) (pos j -ℤ pos r))
+    → ((i j : ℕ) → i < 2 * r + 1 → j < 2 * r + 1
+    → getD l (i * (2 * r + 1) + j) (pos 0) ≡ f (pos i -ℤ pos r) (pos j -ℤ pos r))
     → (dy dx : ℤ) → squareAt (pos 0) r l dy dx ≡ f dy dx
 square-by r l f s h dy dx = go (place r dy) (place r dx)
   where

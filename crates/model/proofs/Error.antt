@@ -1,5 +1,6 @@
--- Laws of the sums: the kernel is symmetric; what an edit does to T and E; the squared error is the sum of the squares of
--- the perceived error, so it is never negative; and the bounds of both, which make the machine arithmetic safe.
+-- Laws of the filtered error T and the squared error E: the kernel is symmetric; what an edit does to T and E; E is the
+-- sum of the squares of the perceived error, so it is never negative; and the bounds of T and E, by which the machine
+-- arithmetic does not wrap.
 use mathlib.Core.Path.{_≡_, refl, sym, _∙_, ap, ap₂, subst, fun-ext}
 use mathlib.Core.List.{List, [], _∷_}
 use Prim.Native.Nat.{ℕ, _+_, _*_, _/_, _%_, _≤_, _<_}
@@ -18,7 +19,8 @@ use Rattle.algebra.proofs.SumOrder.{sum-nonneg, sum-cells, sum-first≤, weight
 use Rattle.algebra.proofs.Interval.{sumFrom-cong, sumFrom-swap, sumFrom-nonneg, correlate-widened, Supported2}
 use Rattle.algebra.proofs.Quadratic.{transform-edit, quadratic-edit, quadratic-cong, gram}
 use Rattle.model.specs.Psf.{total, psfAt, autocorrelation}
-use Rattle.model.specs.Error.{Target, cells, row, column, kernel, error, filteredError, filteredErrors, squaredError, perceivedError, perceivedSquares}
+use Rattle.model.specs.Error.{Target, cells, row, column, kernel, error, filteredError, filteredErrors}
+use Rattle.model.specs.Error.{squaredError, perceivedError, perceivedSquares}
 use Rattle.model.proofs.Basic.{length-tabulate}
 use Rattle.model.proofs.Psf.{psf-supported, autocorrelation-even, autocorrelation-nonneg, autocorrelation-grid≤}
 
@@ -68,20 +70,31 @@ module _ (t : Target) where
     overlap : (m n : ℕ) → m < cells t → n < cells t
         → sumFrom (negℤ (pos (t .radius))) (t .height + 2 * t .radius) (λ y.
         sumFrom (negℤ (pos (t .radius))) (t .width + 2 * t .radius) (λ x.
-        psfAt (t .radius) (t .psf) (y -ℤ row t m) (x -ℤ column t m) *ℤ psfAt (t .radius) (t .psf) (y -ℤ row t n) (x -ℤ column t n)))
+        psfAt (t .radius) (t .psf) (y -ℤ row t m) (x -ℤ column t m)
+        *ℤ psfAt (t .radius) (t .psf) (y -ℤ row t n) (x -ℤ column t n)))
         ≡ kernel t m n
     unfolding kernel autocorrelation
     overlap m n h k =
-        sumFrom-cong o (t .height + 2 * r) (λ y. correlate-widened r (t .width) (m % t .width) (column t n) (p (y -ℤ row t m)) (p (y -ℤ row t n)) (column< m wide) (s .columns (y -ℤ row t m)))
-        ∙ sumFrom-swap o o (t .height + 2 * r) (2 * r + 1) (λ y l. p (y -ℤ row t m) l *ℤ p (y -ℤ row t n) (l +ℤ (column t m -ℤ column t n)))
-        ∙ sumFrom-cong o (2 * r + 1) (λ l. correlate-widened r (t .height) (m / t .width) (row t n) (λ k. p k l) (λ k. p k (l +ℤ (column t m -ℤ column t n))) (row< m wide h) (s .rows l))
-        ∙ sumFrom-swap o o (2 * r + 1) (2 * r + 1) (λ l k. p k l *ℤ p (k +ℤ (row t m -ℤ row t n)) (l +ℤ (column t m -ℤ column t n)))
+        sumFrom-cong o (t .height + 2 * r) (λ y.
+        correlate-widened r (t .width) (m % t .width) (column t n) (p (y -ℤ row t m)) (p (y -ℤ row t n))
+        (column< m wide) (s .columns (y -ℤ row t m)))
+        ∙ sumFrom-swap o o (t .height + 2 * r) (2 * r + 1) (λ y l. p (y -ℤ row t m) l *ℤ p (y -ℤ row t n) (l +ℤ dx))
+        ∙ sumFrom-cong o (2 * r + 1) (λ l.
+        correlate-widened r (t .height) (m / t .width) (row t n) (λ k. p k l) (λ k. p k (l +ℤ dx))
+        (row< m wide h) (s .rows l))
+        ∙ sumFrom-swap o o (2 * r + 1) (2 * r + 1) (λ l k. p k l *ℤ p (k +ℤ dy) (l +ℤ dx))
       where
         r : ℕ
         r = t .radius
 
         o : ℤ
         o = negℤ (pos (t .radius))
+
+        dy : ℤ
+        dy = row t m -ℤ row t n
+
+        dx : ℤ
+        dx = column t m -ℤ column t n
 
         p : ℤ → ℤ → ℤ
         p = psfAt (t .radius) (t .psf)
@@ -94,8 +107,11 @@ module _ (t : Target) where
     unfolding perceivedSquares perceivedError sumFrom squaredError filteredError quadratic bilinear transform
     squared-perceived dots =
         sym (gram (t .height + 2 * t .radius) (t .width + 2 * t .radius) (cells t)
-        (λ y x n. psfAt (t .radius) (t .psf) (negℤ (pos (t .radius)) +ℤ pos y -ℤ row t n) (negℤ (pos (t .radius)) +ℤ pos x -ℤ column t n)) (error t dots)
+        (λ y x n. psfAt (t .radius) (t .psf) (at y -ℤ row t n) (at x -ℤ column t n)) (error t dots)
         ∙ quadratic-cong (cells t) _ (kernel t) (error t dots) overlap)
+      where
+        at : ℕ → ℤ
+        at y = negℤ (pos (t .radius)) +ℤ pos y
 
     pub squared-nonneg : (dots : List ℕ) → pos 0 ≤ℤ squaredError t dots
     unfolding perceivedSquares
@@ -117,20 +133,24 @@ module _ (t : Target) where
           c : ℤ → ℤ → ℤ
           c = autocorrelation (t .radius) (t .psf)
 
-          by-offset : sumTo (cells t) (λ n. kernel t n m) ≡ sumFrom (negℤ (row t m)) (t .height) (λ y. sumFrom (negℤ (column t m)) (t .width) (c y))
+          by-offset : sumTo (cells t) (λ n. kernel t n m)
+              ≡ sumFrom (negℤ (row t m)) (t .height) (λ y. sumFrom (negℤ (column t m)) (t .width) (c y))
           by-offset =
               sum-cells (t .height) (t .width) (λ y x. c (pos y -ℤ row t m) (pos x -ℤ column t m))
               ∙ sum-cong (t .height) (λ y i. sum-cong (t .width) (λ x j.
               ap₂ c (+ℤ-comm (pos y) (negℤ (row t m))) (+ℤ-comm (pos x) (negℤ (column t m)))))
 
-      module _ (M B : ℕ) (small : total (t .psf) ≤ M) (dots : List ℕ) (errors : (n : ℕ) → natAbs (error t dots n) ≤ B) where
+      module _ (M B : ℕ) (small : total (t .psf) ≤ M) (dots : List ℕ)
+          (errors : (n : ℕ) → natAbs (error t dots n) ≤ B) where
         -- T, and each sum of its first terms
-        pub filtered-part≤ : (k m : ℕ) → k ≤ cells t → natAbs (sumTo k (λ n. kernel t n m *ℤ error t dots n)) ≤ M * M * B
+        pub filtered-part≤ : (k m : ℕ) → k ≤ cells t
+            → natAbs (sumTo k (λ n. kernel t n m *ℤ error t dots n)) ≤ M * M * B
         filtered-part≤ k m h =
             NatL.le-trans (weighted≤ k (λ n. kernel t n m) (error t dots) B (λ n. kernel-nonneg n m) errors)
             (NatL.mul-le-mul-right B
             (NatL.le-trans
-            (natAbs-below _ (total (t .psf) * total (t .psf)) (sum-nonneg k _ (λ n l. kernel-nonneg n m)) (kernels≤ k m h))
+            (natAbs-below _ (total (t .psf) * total (t .psf))
+            (sum-nonneg k _ (λ n l. kernel-nonneg n m)) (kernels≤ k m h))
             (NatL.mul-le-mul small small)))
 
         pub filtered≤ : (m : ℕ) → natAbs (filteredError t dots m) ≤ M * M * B
@@ -140,9 +160,11 @@ module _ (t : Target) where
         pub squared≤ : natAbs (squaredError t dots) ≤ cells t * (B * (M * M * B))
         unfolding squaredError
         squared≤ =
-            natAbs-sum (cells t) _ (B * (M * M * B)) (λ m h. natAbs-mul-le (error t dots m) (filteredError t dots m) (errors m) (filtered≤ m))
+            natAbs-sum (cells t) _ (B * (M * M * B)) (λ m h.
+            natAbs-mul-le (error t dots m) (filteredError t dots m) (errors m) (filtered≤ m))
 
   -- an error is at most the largest gray and the largest dot, each by itself
-  pub error≤ : (B : ℕ) (dots : List ℕ) (n : ℕ) → t .step * getD dots n 0 ≤ B → getD (t .gray) n 0 ≤ B → natAbs (error t dots n) ≤ B
+  pub error≤ : (B : ℕ) (dots : List ℕ) (n : ℕ) → t .step * getD dots n 0 ≤ B → getD (t .gray) n 0 ≤ B
+      → natAbs (error t dots n) ≤ B
   unfolding error
   error≤ B dots n h k = apart (t .step * getD dots n 0) (getD (t .gray) n 0) h k

@@ -1,5 +1,6 @@
--- The promises of document 01 that are due so far, each proved by citing the law that does the work. That the public calls
--- answer and leave just this stands in their contracts (crates/filter/src/lib.rt), which cite the same definitions.
+-- The promises of document 01 that are due so far, each proved by citing the law that does the work. That the public
+-- calls answer and leave just this stands in their contracts (crates/filter/src/lib.rt), which cite the same
+-- definitions.
 use mathlib.Core.Path.{_≡_, _∙_}
 use mathlib.Core.Logic.{_⊎_, inl, inr}
 use mathlib.Core.List.{List, [], _∷_}
@@ -14,11 +15,14 @@ use Rattle.algebra.specs.Quadratic.{Increment, Within, edited}
 use Rattle.algebra.proofs.Order.{natAbs-above}
 use Rattle.model.specs.Basic.{AtMost}
 use Rattle.model.specs.Psf.{total, autocorrelation}
-use Rattle.model.specs.Error.{Target, targetOf, cells, kernel, error, filteredError, squaredError, perceivedSquares}
+use Rattle.model.specs.Error.{Target, targetOf, cells, kernel, error}
+use Rattle.model.specs.Error.{filteredError, squaredError, perceivedSquares}
 use Rattle.model.specs.Refusal.{plateRefusal, PlateFits}
 use Rattle.model.specs.Examples.{Examples}
-use Rattle.model.proofs.Psf.{autocorrelation-even, autocorrelation-supported, autocorrelation-nonneg, autocorrelation-total}
-use Rattle.model.proofs.Error.{filtered-edit, squared-edit, squared-perceived, squared-nonneg, filtered≤, squared≤, error≤}
+use Rattle.model.proofs.Psf.{autocorrelation-even, autocorrelation-supported}
+use Rattle.model.proofs.Psf.{autocorrelation-nonneg, autocorrelation-total}
+use Rattle.model.proofs.Error.{filtered-edit, squared-edit, squared-perceived, squared-nonneg}
+use Rattle.model.proofs.Error.{filtered≤, squared≤, error≤}
 use Rattle.model.proofs.Refusal.{plate-again, plate-fits}
 use Rattle.model.proofs.Examples.{examples}
 
@@ -44,7 +48,8 @@ module _ (r : ℕ) (psf : List ℕ) where
 
   -- the sum of all c is the square of the psf's sum
   pub c-sums-to-square : length psf ≡ (2 * r + 1) * (2 * r + 1)
-      → sumFrom (negℤ (pos (2 * r))) (4 * r + 1) (λ dy. sumFrom (negℤ (pos (2 * r))) (4 * r + 1) (autocorrelation r psf dy))
+      → sumFrom (negℤ (pos (2 * r))) (4 * r + 1) (λ dy.
+      sumFrom (negℤ (pos (2 * r))) (4 * r + 1) (autocorrelation r psf dy))
       ≡ pos (total psf) *ℤ pos (total psf)
   c-sums-to-square = autocorrelation-total r psf
 

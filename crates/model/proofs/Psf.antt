@@ -1,5 +1,5 @@
--- Laws of the psf and of its autocorrelation c: c(d) = c(-d), c is 0 where a coordinate passes 2r, c ≥ 0, and the sum of
--- all c is the square of the psf's sum. No mirror symmetry of the psf is used.
+-- Laws of the psf and of its autocorrelation c: c(d) = c(-d), c is 0 where a coordinate passes 2r, c ≥ 0, and the sum
+-- of all c is the square of the psf's sum. No mirror symmetry of the psf is used.
 use mathlib.Core.Path.{_≡_, refl, sym, _∙_, ap, ap₂, subst}
 use mathlib.Core.List.{List, [], _∷_}
 use Prim.Native.Nat.{ℕ, suc, _+_, _*_, _-_, _<_}
@@ -13,10 +13,12 @@ use Rattle.algebra.proofs.Order.{ordℤ, show<, show≡, read<, 0≤-mul}
 use Rattle.algebra.proofs.Grid.{cell-row, cell-column, cell<}
 use Rattle.algebra.proofs.Sum.{sum-cong, sum-split, sum-zeros, sum-scale-r}
 use Rattle.algebra.proofs.SumOrder.{sum-grid}
-use Rattle.algebra.proofs.Interval.{sumFrom-cong, sumFrom-swap, sumFrom-swap2, sumFrom-scale, sumFrom-one, sumFrom-shift, sumFrom-nonneg, correlate-turn, Supported2, grid≤, grid-whole}
+use Rattle.algebra.proofs.Interval.{sumFrom-cong, sumFrom-swap, sumFrom-swap2, sumFrom-scale, sumFrom-one}
+use Rattle.algebra.proofs.Interval.{sumFrom-shift, sumFrom-nonneg, correlate-turn, Supported2, grid≤, grid-whole}
 use Rattle.model.specs.Basic.{squareAt}
 use Rattle.model.specs.Psf.{total, psfAt, autocorrelation, autocorrelations}
-use Rattle.model.proofs.Basic.{square-above, square-below, square-left, square-right, square-inside, square-by, length-tabulate, getD-tabulate}
+use Rattle.model.proofs.Basic.{square-above, square-below, square-left, square-right, square-inside, square-by}
+use Rattle.model.proofs.Basic.{length-tabulate, getD-tabulate}
 
 -- the sum of a list, entry by entry
 pub total-sum : (l : List ℕ) → sumTo (length l) (λ n. pos (getD l n 0)) ≡ pos (total l)
@@ -42,8 +44,14 @@ module _ (r : ℕ) (psf : List ℕ) where
   unfolding psfAt
   psf-supported =
       record {
-        rows = λ x. record { below = λ y h. ap pos (square-above 0 r psf y x h); above = λ y h. ap pos (square-below 0 r psf y x h) };
-        columns = λ y. record { below = λ x h. ap pos (square-left 0 r psf y x h); above = λ x h. ap pos (square-right 0 r psf y x h) };
+        rows = λ x. record {
+          below = λ y h. ap pos (square-above 0 r psf y x h);
+          above = λ y h. ap pos (square-below 0 r psf y x h);
+        };
+        columns = λ y. record {
+          below = λ x h. ap pos (square-left 0 r psf y x h);
+          above = λ x h. ap pos (square-right 0 r psf y x h);
+        };
       }
 
   pub psf-nonneg : (y x : ℤ) → pos 0 ≤ℤ psfAt r psf y x
@@ -57,7 +65,8 @@ module _ (r : ℕ) (psf : List ℕ) where
   psf-mass : length psf ≡ (2 * r + 1) * (2 * r + 1) → mass ≡ pos (total psf)
   unfolding mass sumFrom psfAt
   psf-mass e =
-      sum-cong (2 * r + 1) (λ i h. sum-cong (2 * r + 1) (λ j k. ap pos (square-inside 0 r psf _ _ i j (back i) (back j) h k)))
+      sum-cong (2 * r + 1) (λ i h.
+      sum-cong (2 * r + 1) (λ j k. ap pos (square-inside 0 r psf _ _ i j (back i) (back j) h k)))
       ∙ sym (sum-grid (2 * r + 1) (2 * r + 1) (λ n. pos (getD psf n 0)))
       ∙ ap (λ n. sumTo n (λ n. pos (getD psf n 0))) (sym e)
       ∙ total-sum psf
@@ -69,12 +78,18 @@ module _ (r : ℕ) (psf : List ℕ) where
   pub autocorrelation-even : (dy dx : ℤ) → autocorrelation r psf dy dx ≡ autocorrelation r psf (negℤ dy) (negℤ dx)
   unfolding autocorrelation
   autocorrelation-even dy dx =
-      sumFrom-cong (negℤ (pos r)) (2 * r + 1) (λ y. correlate-turn r dx (p y) (p (y +ℤ dy)) (s .columns y) (s .columns (y +ℤ dy)))
-      ∙ sumFrom-swap (negℤ (pos r)) (negℤ (pos r)) (2 * r + 1) (2 * r + 1) (λ y x. p y (x -ℤ dx) *ℤ p (y +ℤ dy) x)
-      ∙ sumFrom-cong (negℤ (pos r)) (2 * r + 1) (λ x. correlate-turn r dy (λ y. p y (x -ℤ dx)) (λ y. p y x) (s .rows (x -ℤ dx)) (s .rows x))
-      ∙ sumFrom-swap (negℤ (pos r)) (negℤ (pos r)) (2 * r + 1) (2 * r + 1) (λ x y. p (y -ℤ dy) (x -ℤ dx) *ℤ p y x)
-      ∙ sumFrom-cong (negℤ (pos r)) (2 * r + 1) (λ y. sumFrom-cong (negℤ (pos r)) (2 * r + 1) (λ x. *ℤ-comm (p (y -ℤ dy) (x -ℤ dx)) (p y x)))
+      sumFrom-cong o n (λ y. correlate-turn r dx (p y) (p (y +ℤ dy)) (s .columns y) (s .columns (y +ℤ dy)))
+      ∙ sumFrom-swap o o n n (λ y x. p y (x -ℤ dx) *ℤ p (y +ℤ dy) x)
+      ∙ sumFrom-cong o n (λ x. correlate-turn r dy (λ y. p y (x -ℤ dx)) (λ y. p y x) (s .rows (x -ℤ dx)) (s .rows x))
+      ∙ sumFrom-swap o o n n (λ x y. p (y -ℤ dy) (x -ℤ dx) *ℤ p y x)
+      ∙ sumFrom-cong o n (λ y. sumFrom-cong o n (λ x. *ℤ-comm (p (y -ℤ dy) (x -ℤ dx)) (p y x)))
     where
+      o : ℤ
+      o = negℤ (pos r)
+
+      n : ℕ
+      n = 2 * r + 1
+
       p : ℤ → ℤ → ℤ
       p = psfAt r psf
 
@@ -84,7 +99,8 @@ module _ (r : ℕ) (psf : List ℕ) where
   pub autocorrelation-nonneg : (dy dx : ℤ) → pos 0 ≤ℤ autocorrelation r psf dy dx
   unfolding autocorrelation
   autocorrelation-nonneg dy dx =
-      sumFrom-nonneg _ _ _ (λ y. sumFrom-nonneg _ _ _ (λ x. 0≤-mul _ _ (psf-nonneg y x) (psf-nonneg (y +ℤ dy) (x +ℤ dx))))
+      sumFrom-nonneg _ _ _ (λ y. sumFrom-nonneg _ _ _ (λ x.
+      0≤-mul _ _ (psf-nonneg y x) (psf-nonneg (y +ℤ dy) (x +ℤ dx))))
 
   -- c is 0 where a coordinate passes 2r
   abbrev at : ℕ → ℤ
@@ -116,11 +132,13 @@ module _ (r : ℕ) (psf : List ℕ) where
 
       under : (i : ℕ) (d : ℤ) → i < 2 * r + 1 → d <ℤ negℤ (pos (2 * r)) → (at i +ℤ d) <ℤ negℤ (pos r)
       under i d k h =
-          show< (d ∷ pos r ∷ pos i ∷ []) (search reify depth 40) (omega (arith, read< (d ∷ pos r ∷ []) (search reify depth 40) h))
+          show< (d ∷ pos r ∷ pos i ∷ []) (search reify depth 40)
+          (omega (arith, read< (d ∷ pos r ∷ []) (search reify depth 40) h))
 
       past : (i : ℕ) (d : ℤ) → pos (2 * r) <ℤ d → pos r <ℤ (at i +ℤ d)
       past i d h =
-          show< (d ∷ pos r ∷ pos i ∷ []) (search reify depth 40) (omega (arith, read< (d ∷ pos r ∷ []) (search reify depth 40) h))
+          show< (d ∷ pos r ∷ pos i ∷ []) (search reify depth 40)
+          (omega (arith, read< (d ∷ pos r ∷ []) (search reify depth 40) h))
 
   along : (i : ℕ) → i < 2 * r + 1 → (f : ℤ → ℤ)
       → sumFrom (negℤ (pos (2 * r))) (4 * r + 1) (λ d. f (at i +ℤ d))
@@ -152,7 +170,8 @@ module _ (r : ℕ) (psf : List ℕ) where
 
   -- the sum of all c is the square of the psf's sum
   pub autocorrelation-total : length psf ≡ (2 * r + 1) * (2 * r + 1)
-      → sumFrom (negℤ (pos (2 * r))) (4 * r + 1) (λ dy. sumFrom (negℤ (pos (2 * r))) (4 * r + 1) (autocorrelation r psf dy))
+      → sumFrom (negℤ (pos (2 * r))) (4 * r + 1) (λ dy.
+      sumFrom (negℤ (pos (2 * r))) (4 * r + 1) (autocorrelation r psf dy))
       ≡ pos (total psf) *ℤ pos (total psf)
   unfolding autocorrelation sumFrom mass
   autocorrelation-total e =
@@ -175,8 +194,10 @@ module _ (r : ℕ) (psf : List ℕ) where
           → sumFrom b (4 * r + 1) (λ dy. sumFrom b (4 * r + 1) (λ dx. p (at i) (at j) *ℤ p (at i +ℤ dy) (at j +ℤ dx)))
           ≡ p (at i) (at j) *ℤ sumFrom b (4 * r + 1) (λ dy. sumFrom b (4 * r + 1) (λ dx. p (at i +ℤ dy) (at j +ℤ dx)))
       taken-out i j =
-          sumFrom-cong b (4 * r + 1) (λ dy. sumFrom-scale b (4 * r + 1) (p (at i) (at j)) (λ dx. p (at i +ℤ dy) (at j +ℤ dx)))
-          ∙ sumFrom-scale b (4 * r + 1) (p (at i) (at j)) (λ dy. sumFrom b (4 * r + 1) (λ dx. p (at i +ℤ dy) (at j +ℤ dx)))
+          sumFrom-cong b (4 * r + 1) (λ dy.
+          sumFrom-scale b (4 * r + 1) (p (at i) (at j)) (λ dx. p (at i +ℤ dy) (at j +ℤ dx)))
+          ∙ sumFrom-scale b (4 * r + 1) (p (at i) (at j))
+          (λ dy. sumFrom b (4 * r + 1) (λ dx. p (at i +ℤ dy) (at j +ℤ dx)))
 
   -- so no sum of c over a grid is larger, nor any one c
   module _ (e : length psf ≡ (2 * r + 1) * (2 * r + 1)) where
@@ -184,7 +205,8 @@ module _ (r : ℕ) (psf : List ℕ) where
         → sumFrom a H (λ y. sumFrom b W (autocorrelation r psf y)) ≤ℤ (pos (total psf) *ℤ pos (total psf))
     autocorrelation-grid≤ H W a b =
         subst (λ z. sumFrom a H (λ y. sumFrom b W (autocorrelation r psf y)) ≤ℤ z)
-        (ap (λ n. sumFrom (negℤ (pos (2 * r))) n (λ y. sumFrom (negℤ (pos (2 * r))) n (autocorrelation r psf y))) size ∙ autocorrelation-total e)
+        (ap (λ n. sumFrom (negℤ (pos (2 * r))) n (λ y. sumFrom (negℤ (pos (2 * r))) n (autocorrelation r psf y))) size
+        ∙ autocorrelation-total e)
         (grid≤ (2 * r) (autocorrelation r psf) autocorrelation-supported H W a b autocorrelation-nonneg)
       where
         size : 2 * (2 * r) + 1 ≡ 4 * r + 1
@@ -201,7 +223,8 @@ module _ (r : ℕ) (psf : List ℕ) where
   autocorrelations-long = length-tabulate ((4 * r + 1) * (4 * r + 1)) _
 
   -- the list of its values is a square of reach 2r that holds c at every offset
-  pub autocorrelations-at : (dy dx : ℤ) → squareAt (pos 0) (2 * r) (autocorrelations r psf) dy dx ≡ autocorrelation r psf dy dx
+  pub autocorrelations-at : (dy dx : ℤ)
+      → squareAt (pos 0) (2 * r) (autocorrelations r psf) dy dx ≡ autocorrelation r psf dy dx
   unfolding autocorrelations
   autocorrelations-at dy dx =
       square-by (2 * r) _ (autocorrelation r psf) autocorrelation-supported entry dy dx
@@ -213,7 +236,8 @@ module _ (r : ℕ) (psf : List ℕ) where
       c = autocorrelation r psf
 
       entry : (i j : ℕ) → i < 2 * (2 * r) + 1 → j < 2 * (2 * r) + 1
-          → getD (autocorrelations r psf) (i * (2 * (2 * r) + 1) + j) (pos 0) ≡ c (pos i -ℤ pos (2 * r)) (pos j -ℤ pos (2 * r))
+          → getD (autocorrelations r psf) (i * (2 * (2 * r) + 1) + j) (pos 0)
+          ≡ c (pos i -ℤ pos (2 * r)) (pos j -ℤ pos (2 * r))
       entry i j h k =
           let u : i < 4 * r + 1 = omega arith in
           let v : j < 4 * r + 1 = omega arith in

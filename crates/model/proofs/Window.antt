@@ -1,5 +1,5 @@
--- Laws of the window update: what it makes of a tabulated table, the table that a list of sources leaves when a window is
--- added for each, and sizes.
+-- Laws of the window update: the sizes of entries, what one window makes of a table, the table that many of them leave,
+-- and that the filtered error and the autocorrelation are tables built so.
 use mathlib.Core.Path.{_≡_, refl, sym, _∙_, ap, ap₂, subst}
 use mathlib.Core.Bool.{Bool, true, false}
 use mathlib.Core.List.{List, [], _∷_, map}
@@ -31,7 +31,9 @@ small-tabulate k n f h = record { each = λ q. go q (decLt q n) }
   where
     go : (q : ℕ) → Dec (q < n) → natAbs (getD (tabulate n f) q (pos 0)) ≤ k
     go q (yes l) = rw (getD-tabulate n f q (pos 0) l) (h q l)
-    go q (no l) = rw (List·getD-eq-default (tabulate n f) (pos 0) {n = q} (rw (length-tabulate n f) (omega arith))) (omega arith)
+    go q (no l) =
+        rw (List·getD-eq-default (tabulate n f) (pos 0) {n = q} (rw (length-tabulate n f) (omega arith)))
+        (omega arith)
 
 pub small-bytes : {k : ℕ} (l : List ℕ) → ((i : ℕ) → getD l i 0 ≤ k) → Small k (map pos l)
 small-bytes {k} l h = record { each = λ q. subst (λ (z : ℤ). natAbs z ≤ k) (sym (List·getD-map pos l q 0)) (h q) }
@@ -78,22 +80,29 @@ module _ (W R : ℕ) (c : List ℤ) where
 -- ---- the table: a window of the autocorrelation for each cell, times its error
 module _ (t : Target) (dots : List ℕ) where
   pub windows-filtered : (n q : ℕ)
-      → scattered (t .width) (2 * t .radius) (autocorrelations (t .radius) (t .psf)) (error t dots) (λ i. i / t .width) (λ i. i % t .width) n q
+      → scattered (t .width) (2 * t .radius) (autocorrelations (t .radius) (t .psf)) (error t dots)
+      (λ i. i / t .width) (λ i. i % t .width) n q
       ≡ sumTo n (λ i. kernel t i q *ℤ error t dots i)
   unfolding kernel scattered
-  windows-filtered n q = sum-cong n (λ i h. ap (λ z. error t dots i *ℤ z) (at i) ∙ *ℤ-comm (error t dots i) (kernel t i q))
+  windows-filtered n q =
+      sum-cong n (λ i h. ap (λ z. error t dots i *ℤ z) (at i) ∙ *ℤ-comm (error t dots i) (kernel t i q))
     where
-      at : (i : ℕ) → gain (t .width) (2 * t .radius) (autocorrelations (t .radius) (t .psf)) (i / t .width) (i % t .width) q ≡ kernel t i q
+      at : (i : ℕ)
+          → gain (t .width) (2 * t .radius) (autocorrelations (t .radius) (t .psf)) (i / t .width) (i % t .width) q
+          ≡ kernel t i q
       at i = autocorrelations-at (t .radius) (t .psf) _ _ ∙ kernel-symmetric t q i
 
 -- ---- the autocorrelation: a window of the psf for each of its entries, times that entry, at its mirrored place
 module _ (r : ℕ) (psf : List ℕ) where
   pub windows-autocorrelation : length psf ≡ (2 * r + 1) * (2 * r + 1) → (q : ℕ)
-      → scattered (4 * r + 1) r (map pos psf) (λ i. getD (map pos psf) i (pos 0)) (λ i. 3 * r - i / (2 * r + 1)) (λ i. 3 * r - i % (2 * r + 1)) (length psf) q
+      → scattered (4 * r + 1) r (map pos psf) (λ i. getD (map pos psf) i (pos 0))
+      (λ i. 3 * r - i / (2 * r + 1)) (λ i. 3 * r - i % (2 * r + 1)) (length psf) q
       ≡ autocorrelation r psf (pos (q / (4 * r + 1)) -ℤ pos (2 * r)) (pos (q % (4 * r + 1)) -ℤ pos (2 * r))
   unfolding psfAt autocorrelation sumFrom scattered
   windows-autocorrelation e q =
-      ap (λ n. scattered (4 * r + 1) r (map pos psf) (λ i. getD (map pos psf) i (pos 0)) (λ i. 3 * r - i / s) (λ i. 3 * r - i % s) n q) e
+      ap (λ n.
+      scattered (4 * r + 1) r (map pos psf) (λ i. getD (map pos psf) i (pos 0))
+      (λ i. 3 * r - i / s) (λ i. 3 * r - i % s) n q) e
       ∙ sum-cong (s * s) (λ i h. ap₂ (λ a b. a *ℤ b) (first i h) (second i h))
       ∙ sum-cells s s (λ y x. psfAt r psf (at y) (at x) *ℤ psfAt r psf (at y +ℤ dy) (at x +ℤ dx))
     where
@@ -118,13 +127,19 @@ module _ (r : ℕ) (psf : List ℕ) where
       first : (i : ℕ) → i < s * s → getD (map pos psf) i (pos 0) ≡ psfAt r psf (at (i / s)) (at (i % s))
       first i h =
           List·getD-map pos psf i 0
-          ∙ ap pos (sym (square-inside 0 r psf (at (i / s)) (at (i % s)) (i / s) (i % s) (back (i / s)) (back (i % s)) (row< i some h) (column< i some)
+          ∙ ap pos (sym
+          (square-inside 0 r psf (at (i / s)) (at (i % s)) (i / s) (i % s) (back (i / s)) (back (i % s))
+          (row< i some h) (column< i some)
           ∙ ap (λ k. getD psf k 0) (NatL.div-add-mod' i s)))
 
       offset : (k y : ℕ) → y ≤ 3 * r → pos k -ℤ pos (3 * r - y) ≡ negℤ (pos r) +ℤ pos y +ℤ (pos k -ℤ pos (2 * r))
       offset k y h = show≡ (pos k ∷ pos r ∷ pos y ∷ pos (3 * r - y) ∷ []) (search reify depth 40) (omega arith)
 
-      second : (i : ℕ) → i < s * s → gain (4 * r + 1) r (map pos psf) (3 * r - i / s) (3 * r - i % s) q ≡ psfAt r psf (at (i / s) +ℤ dy) (at (i % s) +ℤ dx)
+      second : (i : ℕ) → i < s * s
+          → gain (4 * r + 1) r (map pos psf) (3 * r - i / s) (3 * r - i % s) q
+          ≡ psfAt r psf (at (i / s) +ℤ dy) (at (i % s) +ℤ dx)
       second i h =
           square-map pos 0 r psf _ _
-          ∙ ap₂ (psfAt r psf) (offset (q / (4 * r + 1)) (i / s) (omega (arith, row< i some h))) (offset (q % (4 * r + 1)) (i % s) (omega (arith, column< i some)))
+          ∙ ap₂ (psfAt r psf)
+          (offset (q / (4 * r + 1)) (i / s) (omega (arith, row< i some h)))
+          (offset (q % (4 * r + 1)) (i % s) (omega (arith, column< i some)))

@@ -1,1 +1,2 @@
+-- What the proofs of the sums share.
 pub mod Scatter

@@ -1,5 +1,5 @@
--- What a turn of a loop that adds windows asks of the table and leaves of it, where the table is known by its entries;
--- and what the two tables built so are: the autocorrelation and the filtered error.
+-- A loop that adds a window to a table in each turn: what a turn asks of the table and what it leaves, where the table
+-- is known by its entries; and that the two tables built so are the autocorrelation and the filtered error.
 use mathlib.Core.Path.{_≡_, sym, _∙_, ap, ap₂, subst}
 use mathlib.Core.List.{List, map}
 use Prim.Native.Nat.{ℕ, _+_, _*_, _≤_}
@@ -47,7 +47,8 @@ pub side-small : {r : ℕ} → r ≤ 3 → (2 * r + 1) * (2 * r + 1) ≤ 49
 side-small {r} h = NatL.mul-le-mul {n₂ = 7} {m₂ = 7} (omega arith) (omega arith)
 
 -- ---- what the two tables are
-pub mirrored-is : (r : ℕ) (psf : List ℕ) → length psf ≡ (2 * r + 1) * (2 * r + 1) → mirrored r (map pos psf) ≡ autocorrelations r psf
+pub mirrored-is : (r : ℕ) (psf : List ℕ) → length psf ≡ (2 * r + 1) * (2 * r + 1)
+    → mirrored r (map pos psf) ≡ autocorrelations r psf
 unfolding mirrored autocorrelations
 mirrored-is r psf e =
     tabulate-cong ((4 * r + 1) * (4 * r + 1)) (λ q h.
@@ -57,7 +58,9 @@ module _ (w h r : ℕ) (psf gray dots : List ℕ) where
   abbrev target : Target
   target = targetOf w h r psf gray
 
-  laid-part : (n q : ℕ) → laidAt w h r (autocorrelations r psf) gray dots n q ≡ sumTo n (λ i. kernel target i q *ℤ error target dots i)
+  laid-part : (n q : ℕ)
+      → laidAt w h r (autocorrelations r psf) gray dots n q
+      ≡ sumTo n (λ i. kernel target i q *ℤ error target dots i)
   unfolding error
   laid-part n q = windows-filtered target dots n q
 
@@ -67,11 +70,13 @@ module _ (w h r : ℕ) (psf gray dots : List ℕ) where
 
   -- a table weighed by the errors
   pub weighed-is : length gray ≡ h * w
-      → sumTo (length gray) (λ m. errorOf 255 gray dots m *ℤ getD (filteredErrors target dots) m (pos 0)) ≡ squaredError target dots
+      → sumTo (length gray) (λ m. errorOf 255 gray dots m *ℤ getD (filteredErrors target dots) m (pos 0))
+      ≡ squaredError target dots
   unfolding filteredErrors squaredError error
   weighed-is e =
       ap (λ n. sumTo n (λ m. errorOf 255 gray dots m *ℤ getD (filteredErrors target dots) m (pos 0))) e
-      ∙ sum-cong (h * w) (λ m l. ap (λ z. errorOf 255 gray dots m *ℤ z) (getD-tabulate (h * w) (filteredError target dots) m (pos 0) l))
+      ∙ sum-cong (h * w) (λ m l.
+      ap (λ z. errorOf 255 gray dots m *ℤ z) (getD-tabulate (h * w) (filteredError target dots) m (pos 0) l))
 
   module _ {table : ℕ} (f : PlateFits w h r psf gray dots table) (bytes : (n : ℕ) → getD gray n 0 ≤ 255) where
     errors-small : (n : ℕ) → natAbs (error target dots n) ≤ 255
@@ -81,7 +86,8 @@ module _ (w h r : ℕ) (psf gray dots : List ℕ) where
     laid-steady =
         record {
           each = λ n q l. rw (laid-part n q)
-              (filtered-part≤ target (f .wide .0) (f .psf-fits .square) 1024 255 (f .psf-fits .sum-high) dots errors-small n q l);
+              (filtered-part≤ target (f .wide .0) (f .psf-fits .square) 1024 255 (f .psf-fits .sum-high)
+              dots errors-small n q l);
         }
 
     pub filtered-small : Small mostFiltered (filteredErrors target dots)
@@ -95,7 +101,9 @@ pub kernel-small : (r : ℕ) (psf : List ℕ) → PsfFits r psf → Small 104857
 unfolding autocorrelations
 kernel-small r psf f =
     small-tabulate 1048576 _ _ (λ q h.
-    NatL.le-trans (natAbs-below _ (total psf * total psf) (autocorrelation-nonneg r psf _ _) (autocorrelation≤ r psf (f .square) _ _))
+    NatL.le-trans
+    (natAbs-below _ (total psf * total psf)
+    (autocorrelation-nonneg r psf _ _) (autocorrelation≤ r psf (f .square) _ _))
     (NatL.mul-le-mul {n₂ = 1024} {m₂ = 1024} (f .sum-high) (f .sum-high)))
 
 -- ---- a part of a local array that is lent

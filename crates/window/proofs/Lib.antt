@@ -1,2 +1,3 @@
+-- What the proofs of the window update share: a run entry by entry, and a window row by row.
 pub mod Run
 pub mod Rows

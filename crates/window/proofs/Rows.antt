@@ -1,5 +1,5 @@
--- The window row by row: before the first turn of its loop, one turn more, and after the last; and where the run of a
--- row ends.
+-- The window added row by row: before the first turn of the loop, after one turn more, and after the last; and where
+-- the run of a row stands.
 use mathlib.Core.Path.{_≡_, refl, sym, _∙_}
 use mathlib.Core.Logic.{_⊎_, inl, inr}
 use mathlib.Core.List.{List}
@@ -24,13 +24,16 @@ row-below : (a b width : ℕ) → a < b → a * width + width ≤ b * width
 row-below a b width h = rw suc-mul at (mul-le-mul-right width h)
 
 -- apart from the rest, since `omega` splits few differences at once
-index : (i left x reach col : ℕ) → left ≤ x → col ≤ left + reach → i + (left + reach - col) + (x - left) ≡ i + (x + reach - col)
+index : (i left x reach col : ℕ) → left ≤ x → col ≤ left + reach
+    → i + (left + reach - col) + (x - left) ≡ i + (x + reach - col)
 index i left x reach col p q = omega arith
 
 module _ (width reach row col : ℕ) (c : List ℤ) (amount : ℤ) where
   -- the entry of row y and column x once the window is added
   abbrev gained : List ℤ → ℕ → ℕ → ℤ
-  gained t y x = getD t (y * width + x) (pos 0) +ℤ amount *ℤ squareAt (pos 0) reach c (pos y -ℤ pos row) (pos x -ℤ pos col)
+  gained t y x =
+      getD t (y * width + x) (pos 0)
+      +ℤ amount *ℤ squareAt (pos 0) reach c (pos y -ℤ pos row) (pos x -ℤ pos col)
 
   -- t is t₀ with the window added to the rows above y
   pub record Rows (y : ℕ) (t₀ t : List ℤ) : Type 0 where
@@ -48,9 +51,10 @@ module _ (width reach row col : ℕ) (c : List ℤ) (amount : ℤ) where
     rest = λ q h. refl;
   }
 
-  module _ {y left right : ℕ} {t₀ t t′ : List ℤ} (above : row ≤ y + reach) (under : y ≤ row + reach) (in-row : col < width)
-      (l : left ≡ col - reach) (e : right ≡ min (col + reach + 1) width) (r : Rows y t₀ t)
-      (n : Ran (y * width + left) c ((y + reach - row) * (2 * reach + 1) + (left + reach - col)) amount (right - left) t t′) where
+  module _ {y left right : ℕ} {t₀ t t′ : List ℤ} (above : row ≤ y + reach) (under : y ≤ row + reach)
+      (in-row : col < width) (l : left ≡ col - reach) (e : right ≡ min (col + reach + 1) width) (r : Rows y t₀ t)
+      (n : Ran (y * width + left) c ((y + reach - row) * (2 * reach + 1) + (left + reach - col))
+      amount (right - left) t t′) where
     -- an entry of the run
     reached : (x : ℕ) → left ≤ x → x < right → getD t′ (y * width + x) (pos 0) ≡ gained t₀ y x
     reached x p q =
@@ -84,7 +88,8 @@ module _ (width reach row col : ℕ) (c : List ℤ) (amount : ℤ) where
           n .beyond q (omega arith) ∙ r .rest q (omega arith);
     }
 
-  pub rows-end : (height : ℕ) {y : ℕ} {t₀ t : List ℤ} → 0 < width → length t₀ ≡ height * width → min (row + reach + 1) height ≤ y
+  pub rows-end : (height : ℕ) {y : ℕ} {t₀ t : List ℤ} → 0 < width → length t₀ ≡ height * width
+      → min (row + reach + 1) height ≤ y
       → Rows y t₀ t → t ≡ addWindow width reach c amount row col t₀
   unfolding addWindow
   rows-end height {y} {t₀} {t} w n b r =
@@ -99,7 +104,8 @@ module _ (width reach row col : ℕ) (c : List ℤ) (amount : ℤ) where
         | yes p ↦ r .done v x p k
         | no p ↦
             let o : y ≤ v = omega arith in
-            r .rest (v * width + x) (omega (arith, mul-le-mul-right width o)) ∙ untouched t₀ v x (inl (inr (omega arith)))
+            r .rest (v * width + x) (omega (arith, mul-le-mul-right width o))
+            ∙ untouched t₀ v x (inl (inr (omega arith)))
       ]
 
 -- ---- where the run of a row stands: its first index is small, and n entries from there end within the rows
@@ -109,5 +115,6 @@ row-fits i n p q = record { fits = lt-of-le-of-lt (mul-le-mul p q) (lit< tt) }
 pub index-fits : (i n j : ℕ) → i ≤ 262 → n ≤ 256 → j ≤ 262 → Fits w64 (i * n + j)
 index-fits i n j p q r = record { fits = lt-of-le-of-lt (add-le-add (mul-le-mul p q) r) (lit< tt) }
 
-pub run-ends : (i j n : ℕ) {width height long : ℕ} → i < height → j + n ≤ width → long ≡ height * width → i * width + j + n ≤ long
+pub run-ends : (i j n : ℕ) {width height long : ℕ} → i < height → j + n ≤ width → long ≡ height * width
+    → i * width + j + n ≤ long
 run-ends i j n {width} {height} p q e = omega (arith, row-below i height width p)

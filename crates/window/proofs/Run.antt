@@ -1,4 +1,4 @@
--- The run entry by entry: before the first turn of its loop, and one turn more.
+-- The run added entry by entry: before the first turn of the loop, and after one turn more.
 use mathlib.Core.Path.{_≡_, refl, _∙_}
 use mathlib.Core.List.{List}
 use Prim.Native.Nat.{ℕ, _+_, _<_}
@@ -18,7 +18,9 @@ pub run-next : {at from k : ℕ} {c t₀ t : List ℤ} {amount : ℤ} → Ran at
 run-next {at} {k} {t} r v e h = record {
   long = length-set t (at + k) v ∙ r .long;
   below = λ q p. other q (omega arith) ∙ r .below q p;
-  within = below-more _ k (λ j p. other (at + j) (omega arith) ∙ r .within j p) (getD-set-same t (at + k) v (pos 0) h ∙ e);
+  within = below-more _ k
+      (λ j p. other (at + j) (omega arith) ∙ r .within j p)
+      (getD-set-same t (at + k) v (pos 0) h ∙ e);
   beyond = λ q p. other q (omega arith) ∙ r .beyond q (omega arith);
 }
   where

@@ -1,4 +1,5 @@
--- `judge::judge_autocorrelation` meets its contract: to have three slices of one length is to have one of it.
+-- `judge::judge_autocorrelation` meets its contract: `judge_slices` is handed the one output length three times, which
+-- tests it no differently from once.
 use mathlib.Core.Bool.{or-self-left}
 use mathlib.Core.Path.{_∙_}
 use native.Mathlib.Omega.{arith}

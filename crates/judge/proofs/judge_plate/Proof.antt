@@ -1,4 +1,5 @@
--- `judge::judge_plate` meets its contract: the first of its list is found by the judges of the list's three parts.
+-- `judge::judge_plate` meets its contract: the list of refusals is in three parts, each with a judge of its own, and
+-- the first number that a judge finds is the first of the whole list.
 use mathlib.Core.List.{List, [], _∷_, _++_}
 use mathlib.Core.Path.{_≡_, _∙_, ap₂}
 use Prim.Native.Nat.{ℕ, _*_, _≤_}
@@ -38,7 +39,8 @@ module _ (w h r : ℕ) where
     unfolding plateRefusal
     by-measures = first-here measures (slices ++ last)
 
-    by-rest : {x a b y : ℕ} → x ≡ firstOf measures → x ≡ 0 → a ≡ firstOf slices → b ≡ firstOf last → y ≡ either a b → Answer y
+    by-rest : {x a b y : ℕ} → x ≡ firstOf measures → x ≡ 0
+        → a ≡ firstOf slices → b ≡ firstOf last → y ≡ either a b → Answer y
     unfolding plateRefusal
     by-rest e z f g h =
         first-past measures (slices ++ last) (none measures tt e z) (h ∙ ap₂ either f g ∙ first-append slices last tt)
@@ -70,7 +72,8 @@ returns-2 c =
     let left = c .before .before .before in
     let slices = c .before .before .judge-slices in
     let dots = c .before .judge-dots in
-    by-rest _ _ _ _ _ _ _ (left .before .judge-measures .ensures) (left .if1 .left) (slices .ensures) (dots .ensures) (c .first .ensures)
+    by-rest _ _ _ _ _ _ _ (left .before .judge-measures .ensures) (left .if1 .left)
+    (slices .ensures) (dots .ensures) (c .first .ensures)
 
 pub judge-plate-spec : {M : Type 1} → statement M
 judge-plate-spec =

@@ -1,6 +1,6 @@
 -- `sums::autocorrelate` meets its contract: the local array's part holds the psf's bytes.
 use borrow.Author.Needs.{needs}
-use Prim.Native.Nat.{_+_, _*_, _≤_}
+use Prim.Native.Nat.{ℕ, _+_, _*_, _≤_}
 use native.Mathlib.Omega.{arith}
 use mathlib.Core.Path.{_≡_, sym, _∙_, ap, subst}
 use mathlib.Core.List.{List, _++_, map}
@@ -29,8 +29,15 @@ widen-requires c κs = sym (part-whole _ _ (few (c .before .before)))
 
 -- what `widen` left has the psf's length
 module _ (c : tie.After-widen) where
-  left-long : length (c .widen .last .1 .0) ≡ length (c .before .before .before .args .psf .now)
-  left-long = ap length (c .widen .ensures) ∙ length-map (c .before .before .before .args .psf .now) pos
+  abbrev psf : List ℕ
+  psf = c .before .before .before .args .psf .now
+
+  left-long : length (c .widen .last .1 .0) ≡ length psf
+  left-long = ap length (c .widen .ensures) ∙ length-map psf pos
+
+  -- the part that is lent on
+  part-is : (l : List ℤ) → take (length psf) (c .widen .last .1 .0 ++ l) ≡ map pos psf
+  part-is l = take-at (c .widen .last .1 .0) l (length psf) left-long ∙ c .widen .ensures
 
 array-share-prefix-p : tie.Need-array-share-prefix-p
 array-share-prefix-p c = simp length-append (omega (arith, left-long (c .before)))
@@ -38,18 +45,15 @@ array-share-prefix-p c = simp length-append (omega (arith, left-long (c .before)
 slice-aggregate-correlate : tie.Need-slice-aggregate-correlate
 slice-aggregate-correlate c = part-whole _ _ (simp length-append (omega (arith, left-long (c .before .before))))
 
--- the part that is lent on
-part-is : (c : tie.After-widen) (l : List ℤ)
-    → take (length (c .before .before .before .args .psf .now)) (c .widen .last .1 .0 ++ l) ≡ map pos (c .before .before .before .args .psf .now)
-part-is c l = take-at (c .widen .last .1 .0) l (length (c .before .before .before .args .psf .now)) (left-long c) ∙ c .widen .ensures
-
 correlate-requires : tie.Need-correlate-requires
 correlate-requires c κs =
-    let s = c .before .before .before .before .before .before in
-    let psf = s .args .psf .now in
-    let r = s .args .radius in (
-      subst (λ (p : List ℤ). (r ≤ 3) × (length p ≡ (2 * r + 1) * (2 * r + 1)) × Small 255 p) (sym (part-is (c .before .before .before) _))
-          (s .pre .0 .near, length-map psf pos ∙ s .pre .0 .square, small-bytes psf (λ i. omega (arith, c .before .before .before .before .before .shared-slice-known .given i))),
+    let b = c .before .before .before in
+    let s = b .before .before .before in
+    let r = s .args .radius in
+    let known = b .before .before .shared-slice-known in
+    let small : Small 255 (map pos (psf b)) = small-bytes (psf b) (λ i. omega (arith, known .given i)) in (
+      subst (λ (p : List ℤ). (r ≤ 3) × (length p ≡ (2 * r + 1) * (2 * r + 1)) × Small 255 p) (sym (part-is b _))
+          (s .pre .0 .near, length-map (psf b) pos ∙ s .pre .0 .square, small),
       s .pre .1,
     )
 

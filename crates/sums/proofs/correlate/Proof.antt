@@ -48,7 +48,8 @@ loop-holds c =
       omega arith,
       c .before .clear .ensures
           ∙ ap (λ n. tabulate n (λ q. pos 0)) (s .pre .1)
-          ∙ scattered-none (4 * r + 1) r p (λ i. getD p i (pos 0)) (λ i. 3 * r - i / (2 * r + 1)) (λ i. 3 * r - i % (2 * r + 1)) _,
+          ∙ scattered-none (4 * r + 1) r p (λ i. getD p i (pos 0))
+          (λ i. 3 * r - i / (2 * r + 1)) (λ i. 3 * r - i % (2 * r + 1)) _,
     )
 
 -- in a turn: the entry's row and column in the square
@@ -93,8 +94,11 @@ add-window-requires c κs =
       (
         (table-long _ _ (b .before .loop .inv .1), p .0 .1),
         (
-          table-small _ _ (b .before .loop .inv .1) (λ q. mirrored-small (s b .args .radius) (s b .args .p .now) i q (p .0 .2) few),
-          scaled-by _ (s b .args .p .now) (size-of (of-small w32 (getD (s b .args .p .now) i (pos 0)) (p .0 .2 .each i) (lit< tt))) (p .0 .2) (lit≤ tt),
+          table-small _ _ (b .before .loop .inv .1)
+              (λ q. mirrored-small (s b .args .radius) (s b .args .p .now) i q (p .0 .2) few),
+          scaled-by _ (s b .args .p .now)
+              (size-of (of-small w32 (getD (s b .args .p .now) i (pos 0)) (p .0 .2 .each i) (lit< tt)))
+              (p .0 .2) (lit≤ tt),
         ),
       ),
     )
@@ -112,8 +116,11 @@ loop-again c =
     let r = s b .args .radius in
     let p = s b .args .p .now in (
       omega arith,
-      table-next (4 * r + 1) r p (λ i. getD p i (pos 0)) (λ i. 3 * r - i / (2 * r + 1)) (λ i. 3 * r - i % (2 * r + 1)) _ i
-          (b .before .loop .inv .1) (of-small w32 (getD p i (pos 0)) (s b .pre .0 .2 .each i) (lit< tt) .value) (c .before .add-window .ensures),
+      table-next (4 * r + 1) r p (λ i. getD p i (pos 0))
+          (λ i. 3 * r - i / (2 * r + 1)) (λ i. 3 * r - i % (2 * r + 1)) _ i
+          (b .before .loop .inv .1)
+          (of-small w32 (getD p i (pos 0)) (s b .pre .0 .2 .each i) (lit< tt) .value)
+          (c .before .add-window .ensures),
     )
 
 same-length : tie.Need-same-length Inv-loop μ-loop

@@ -19,7 +19,8 @@ cast-result c = search needs
 
 -- 255 times the dot, as the locals hold it
 module _ (c : tie.After-shared-slice-known) where
-  dot : Holds w32 (getD (c .before .args .dots .now) (c .before .args .n) 0) (pos (getD (c .before .args .dots .now) (c .before .args .n) 0)) 1
+  dot : Holds w32 (getD (c .before .args .dots .now) (c .before .args .n) 0)
+      (pos (getD (c .before .args .dots .now) (c .before .args .n) 0)) 1
   dot = of-cast w32 _ (omega arith) (lit< tt)
 
 mul-result : tie.Need-mul-result
@@ -33,7 +34,8 @@ cast-result-2 c = record { sfits = omega (arith, c .shared-slice-known2 .given (
 
 -- and the gray
 module _ (c : tie.After-shared-slice-known2) where
-  gray : Holds w32 (getD (c .before .before .args .gray .now) (c .before .before .args .n) 0) (pos (getD (c .before .before .args .gray .now) (c .before .before .args .n) 0)) 255
+  gray : Holds w32 (getD (c .before .before .args .gray .now) (c .before .before .args .n) 0)
+      (pos (getD (c .before .before .args .gray .now) (c .before .before .args .n) 0)) 255
   gray = of-cast w32 _ (omega (arith, c .shared-slice-known2 .given (c .before .before .args .n))) (lit< tt)
 
 sub-result : tie.Need-sub-result
@@ -44,7 +46,8 @@ returns c =
     let d = getD (c .before .before .args .dots .now) (c .before .before .args .n) 0 in
     let g = getD (c .before .before .args .gray .now) (c .before .before .args .n) 0 in
     let e = sub-holds (mul-holds (literal w32 255 tt) (dot (c .before)) (lit< tt)) (gray c) (lit< tt) in
-    (e .value, rw (e .value) (apart (255 * d) g (omega arith) (omega (arith, c .shared-slice-known2 .given (c .before .before .args .n)))))
+    let byte = c .shared-slice-known2 .given (c .before .before .args .n) in
+    (e .value, rw (e .value) (apart (255 * d) g (omega arith) (omega (arith, byte))))
 
 pub error-at-spec : {M : Type 1} → statement M
 error-at-spec =

@@ -53,7 +53,9 @@ module _ (c : tie.After-autocorrelate) where
   left-long = ap length (c .autocorrelate .ensures) ∙ autocorrelations-long (s .args .radius) (s .args .psf .now)
 
   -- the part that is lent on
-  part-is : (l : List ℤ) → take n (c .autocorrelate .last .1 .1 .0 ++ l) ≡ autocorrelations (s .args .radius) (s .args .psf .now)
+  part-is : (l : List ℤ)
+      → take n (c .autocorrelate .last .1 .1 .0 ++ l)
+      ≡ autocorrelations (s .args .radius) (s .args .psf .now)
   part-is l = take-at (c .autocorrelate .last .1 .1 .0) l n left-long ∙ c .autocorrelate .ensures
 
 array-share-prefix-c : tie.Need-array-share-prefix-c
@@ -77,7 +79,8 @@ lay-requires c κs =
           (
             f .bits,
             subst (λ (p : List ℤ). Steady (a .width) (a .height) (a .radius) p (a .gray .now) (a .dots .now)) (sym is)
-                (laid-steady (a .width) (a .height) (a .radius) (a .psf .now) (a .gray .now) (a .dots .now) f (λ i. omega (arith, b .before .before .before .shared-slice-known2 .given i))),
+                (laid-steady (a .width) (a .height) (a .radius) (a .psf .now) (a .gray .now) (a .dots .now)
+                f (λ i. omega (arith, b .before .before .before .shared-slice-known2 .given i))),
           ),
         ),
       ),

@@ -34,8 +34,13 @@ clear-requires c κs = tt
 loop-holds : tie.Need-loop-holds Inv-loop μ-loop
 loop-holds c =
     let s = c .before .before .before .before .before in
-    let a = s .args in
-    (omega arith, c .before .clear .ensures ∙ ap (λ n. tabulate n (λ q. pos 0)) (s .pre .1 .1 .0 .2) ∙ scattered-none (a .width) (2 * a .radius) (a .c .now) (errorOf 255 (a .gray .now) (a .dots .now)) (λ n. n / a .width) (λ n. n % a .width) (a .height * a .width))
+    let a = s .args in (
+      omega arith,
+      c .before .clear .ensures
+          ∙ ap (λ n. tabulate n (λ q. pos 0)) (s .pre .1 .1 .0 .2)
+          ∙ scattered-none (a .width) (2 * a .radius) (a .c .now) (errorOf 255 (a .gray .now) (a .dots .now))
+          (λ n. n / a .width) (λ n. n % a .width) (a .height * a .width),
+    )
 
 div-row : tie.Need-div-row Inv-loop μ-loop
 div-row c = omega arith
@@ -53,7 +58,11 @@ mul-add-window c = omega arith
 
 -- the error as the call takes it
 module _ (c : tie.After-error-at Inv-loop μ-loop) where
-  amount : Holds w32 (ofZ w32 (c .error-at .result)) (errorOf 255 (c .before .before .before .before .before .before .before .before .args .gray .now) (c .before .before .before .before .before .before .before .before .args .dots .now) (c .before .before .loop .n)) 255
+  abbrev s : tie.Start Inv-loop μ-loop
+  s = c .before .before .before .before .before .before .before .before
+
+  amount : Holds w32 (ofZ w32 (c .error-at .result))
+      (errorOf 255 (s .args .gray .now) (s .args .dots .now) (c .before .before .loop .n)) 255
   amount = named (c .error-at .ensures .0) (of-small w32 (c .error-at .result) (c .error-at .ensures .1) (lit< tt))
 
 add-window-requires : tie.Need-add-window-requires Inv-loop μ-loop
@@ -84,7 +93,8 @@ loop-again c =
     let l = c .before .before .before .before .before in
     let a = c .before .before .before .before .before .before .before .before .before .before .before .args in (
       omega arith,
-      table-next (a .width) (2 * a .radius) (a .c .now) (errorOf 255 (a .gray .now) (a .dots .now)) (λ n. n / a .width) (λ n. n % a .width) (a .height * a .width) (l .loop .n)
+      table-next (a .width) (2 * a .radius) (a .c .now) (errorOf 255 (a .gray .now) (a .dots .now))
+          (λ n. n / a .width) (λ n. n % a .width) (a .height * a .width) (l .loop .n)
           (l .loop .inv .1) (amount (c .before .before .before) .value) (c .before .add-window .ensures),
     )
 
@@ -98,7 +108,9 @@ unfolding laid
 returns c =
     let a = c .before .before .before .before .before .before .before .args in
     let e : c .before .loop .n ≡ a .height * a .width = omega arith in
-    c .before .loop .inv .1 ∙ ap (λ n. tabulate (a .height * a .width) (laidAt (a .width) (a .height) (a .radius) (a .c .now) (a .gray .now) (a .dots .now) n)) e
+    c .before .loop .inv .1
+    ∙ ap (λ n. tabulate (a .height * a .width)
+    (laidAt (a .width) (a .height) (a .radius) (a .c .now) (a .gray .now) (a .dots .now) n)) e
 
 pub lay-spec : {M : Type 1} → statement M
 lay-spec =

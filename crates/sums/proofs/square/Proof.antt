@@ -11,7 +11,7 @@ use lib.Seq.{take-at}
 use mir.Syntax.{w64}
 use Rattle.algebra.proofs.Machine.{read-back}
 use Rattle.algebra.specs.Sum.{sumTo}
-use Rattle.model.specs.Error.{errorOf, targetOf, filteredErrors}
+use Rattle.model.specs.Error.{Target, targetOf, errorOf, filteredErrors}
 use Rattle.model.specs.Refusal.{PlateFits}
 use Rattle.model.specs.Window.{Small, mostFiltered}
 use Rattle.model.proofs.Error.{filtered-long}
@@ -39,25 +39,31 @@ filter-requires : tie.Need-filter-requires
 filter-requires c κs =
     let s = c .before .before .before .before in
     let a = s .args in
-    subst (PlateFits (a .width) (a .height) (a .radius) (a .psf .now) (a .gray .now) (a .dots .now)) (part-whole _ _ (held s)) (s .pre .0)
+    subst (PlateFits (a .width) (a .height) (a .radius) (a .psf .now) (a .gray .now) (a .dots .now))
+    (part-whole _ _ (held s)) (s .pre .0)
 
 -- what `filter` left is the table, as long as the plate
 module _ (c : tie.After-filter) where
   abbrev s : tie.Start
   s = c .before .before .before .before .before
 
+  abbrev target : Target
+  target = targetOf (s .args .width) (s .args .height) (s .args .radius) (s .args .psf .now) (s .args .gray .now)
+
   abbrev table : List ℤ
-  table = filteredErrors (targetOf (s .args .width) (s .args .height) (s .args .radius) (s .args .psf .now) (s .args .gray .now)) (s .args .dots .now)
+  table = filteredErrors target (s .args .dots .now)
 
   table-long : length table ≡ length (s .args .gray .now)
-  table-long = filtered-long (targetOf (s .args .width) (s .args .height) (s .args .radius) (s .args .psf .now) (s .args .gray .now)) (s .args .dots .now) ∙ sym (s .pre .0 .gray-length)
+  table-long = filtered-long target (s .args .dots .now) ∙ sym (s .pre .0 .gray-length)
 
   left-long : length (c .filter .last .1 .1 .1 .1 .1 .1 .0) ≡ length (s .args .gray .now)
   left-long = ap length (c .filter .ensures) ∙ table-long
 
   -- the part that is lent on
   part-is : (l : List ℤ) → take (length (s .args .gray .now)) (c .filter .last .1 .1 .1 .1 .1 .1 .0 ++ l) ≡ table
-  part-is l = take-at (c .filter .last .1 .1 .1 .1 .1 .1 .0) l (length (s .args .gray .now)) left-long ∙ c .filter .ensures
+  part-is l =
+      take-at (c .filter .last .1 .1 .1 .1 .1 .1 .0) l (length (s .args .gray .now)) left-long
+      ∙ c .filter .ensures
 
 slice-reshare-prefix-weigh : tie.Need-slice-reshare-prefix-weigh
 slice-reshare-prefix-weigh c = simp length-append (omega (arith, left-long (c .before)))
@@ -77,7 +83,8 @@ weigh-requires c κs =
         few (s b),
         f .bits,
         subst (Small mostFiltered) (sym is)
-            (filtered-small (a .width) (a .height) (a .radius) (a .psf .now) (a .gray .now) (a .dots .now) f (λ i. omega (arith, bytes .given i))),
+            (filtered-small (a .width) (a .height) (a .radius) (a .psf .now) (a .gray .now) (a .dots .now)
+            f (λ i. omega (arith, bytes .given i))),
       ),
     )
 
@@ -90,8 +97,11 @@ returns c =
     let a = s b .args in
     read-back w64 (c .weigh .result) (c .weigh .ok)
     ∙ c .weigh .ensures
-    ∙ ap (λ (t : List ℤ). sumTo (length (a .gray .now)) (λ m. errorOf 255 (a .gray .now) (a .dots .now) m *ℤ getD t m (pos 0))) (part-is b _)
-    ∙ weighed-is (a .width) (a .height) (a .radius) (a .psf .now) (a .gray .now) (a .dots .now) (s b .pre .0 .gray-length)
+    ∙ ap (λ (t : List ℤ). sumTo (length (a .gray .now))
+    (λ m. errorOf 255 (a .gray .now) (a .dots .now) m *ℤ getD t m (pos 0)))
+    (part-is b _)
+    ∙ weighed-is (a .width) (a .height) (a .radius) (a .psf .now) (a .gray .now) (a .dots .now)
+    (s b .pre .0 .gray-length)
 
 pub square-spec : {M : Type 1} → statement M
 square-spec =

@@ -10,7 +10,8 @@ use lib.ListN.{length, getD}
 use mir.Syntax.{w32, w64}
 use mir.Val.{toZ, ofZ}
 use Rattle.algebra.specs.Sum.{sumTo}
-use Rattle.algebra.proofs.Machine.{Holds, of-small, named, wider, cast-fits, cast-holds, mul-fits, mul-holds, add-fits, add-holds}
+use Rattle.algebra.proofs.Machine.{Holds, of-small, named, wider, cast-fits, cast-holds}
+use Rattle.algebra.proofs.Machine.{mul-fits, mul-holds, add-fits, add-holds}
 use Rattle.algebra.proofs.Sum.{sumTo-suc}
 use Rattle.model.specs.Error.{errorOf}
 use Rattle.sums.proofs.weigh.Statement.{statement}
@@ -43,8 +44,11 @@ module _ (c : tie.After-error-at Inv-loop μ-loop) where
   abbrev l : tie.At-loop Inv-loop μ-loop
   l = c .before .before
 
-  factor : Holds w64 (ofZ w64 (toZ w32 (ofZ w32 (c .error-at .result)))) (errorOf 255 (s .args .gray .now) (s .args .dots .now) (l .loop .m)) 255
-  factor = named (c .error-at .ensures .0) (cast-holds w64 (of-small w32 (c .error-at .result) (c .error-at .ensures .1) (lit< tt)) (lit< tt))
+  factor : Holds w64 (ofZ w64 (toZ w32 (ofZ w32 (c .error-at .result))))
+      (errorOf 255 (s .args .gray .now) (s .args .dots .now) (l .loop .m)) 255
+  factor =
+      named (c .error-at .ensures .0)
+      (cast-holds w64 (of-small w32 (c .error-at .result) (c .error-at .ensures .1) (lit< tt)) (lit< tt))
 
   abbrev entry : ℤ
   entry = getD (s .args .table .now) (l .loop .m) (pos 0)

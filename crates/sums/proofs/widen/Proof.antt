@@ -49,7 +49,9 @@ same-length : tie.Need-same-length Inv-loop μ-loop
 same-length c = omega (arith, c .before .loop .inv .1 .long)
 
 returns : tie.Need-returns Inv-loop μ-loop
-returns c = fill-all (c .before .loop .inv .1) (omega arith) ∙ sym (map-tabulate pos 0 (c .before .before .args .bytes .now))
+returns c =
+    fill-all (c .before .loop .inv .1) (omega arith)
+    ∙ sym (map-tabulate pos 0 (c .before .before .args .bytes .now))
 
 pub widen-spec : {M : Type 1} → statement M
 widen-spec =

@@ -1,4 +1,5 @@
--- `examples::show::magnitude` meets its contract: of a number below 0 the one above it is turned, which fits, and 1 is added.
+-- `examples::show::magnitude` meets its contract: of a number below 0 the next one up is turned, which fits, and 1 is
+-- added.
 use borrow.Author.Needs.{needs}
 use mathlib.Core.Path.{_≡_, refl, _∙_, ap}
 use mathlib.Core.Bool.{true, false, true≢false}
@@ -31,7 +32,8 @@ turned-by : (n : ℕ) (v : ℤ) → n < 2 ^ 63 → v +ℤ pos 1 ≡ negℤ (pos 
 turned-by n v h e =
     let next : SFits w64 (v +ℤ pos 1) = rw e (fits-small w64 (negℤ (pos n)) (le-of-eq (natAbs-negℤ (pos n))) h) in
     let value : toZ w64 (ofZ w64 (v +ℤ pos 1)) ≡ negℤ (pos n) = toZ-ofZ next ∙ e in
-    let back : pos 0 -ℤ toZ w64 (ofZ w64 (v +ℤ pos 1)) ≡ pos n = ap (λ z. pos 0 -ℤ z) value ∙ ring! (pos n ∷ []) (search reify depth 40) refl in
+    let turn : pos 0 -ℤ negℤ (pos n) ≡ pos n = ring! (pos n ∷ []) (search reify depth 40) refl in
+    let back : pos 0 -ℤ toZ w64 (ofZ w64 (v +ℤ pos 1)) ≡ pos n = ap (λ z. pos 0 -ℤ z) value ∙ turn in
     let fits : SFits w64 (pos 0 -ℤ toZ w64 (ofZ w64 (v +ℤ pos 1))) = rw back (record { sfits = h }) in
     record { n = n; small = h; next-fits = next; turned-fits = fits; turned = toZ-ofZ fits ∙ back }
 
@@ -66,7 +68,9 @@ returns : tie.Need-returns
 returns c = search needs
 
 cast-result-2 : tie.Need-cast-result-2
-cast-result-2 c = let s = c .before in above (toZ w64 (ofZ w64 (s .args .x))) (c .if1 .left) (rw (value s) (s .fits .x .sfits))
+cast-result-2 c =
+    let s = c .before in
+    above (toZ w64 (ofZ w64 (s .args .x))) (c .if1 .left) (rw (value s) (s .fits .x .sfits))
 
 returns-2 : tie.Need-returns-2
 returns-2 c = search needs
