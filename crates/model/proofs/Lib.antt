@@ -1,3 +1,4 @@
+-- The laws of the definitions, a file for each, and the promises that rest on them.
 pub mod Basic
 pub mod Psf
 pub mod Error

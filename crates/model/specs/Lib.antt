@@ -1,3 +1,4 @@
+-- Document 01 as definitions: everything that a contract cites.
 pub mod Basic
 pub mod Psf
 pub mod Error
