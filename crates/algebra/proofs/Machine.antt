@@ -2,14 +2,14 @@
 -- operation has two laws: that it does not wrap (`-fits`), and what the bits it leaves stand for (`-holds`).
 use mathlib.Core.Path.{_≡_, sym, _∙_, subst}
 use Prim.Native.Nat.{ℕ, _+_, _*_, _^_, _≤_, _<_}
-use native.Mathlib.Nat.{le-trans, le-refl, lt-of-le-of-lt}
+use native.Mathlib.Nat.{le-trans, le-refl, lt-of-le-of-lt, mul-le-mul}
 use native.Mathlib.Omega.{arith}
 use lib.Dec.{T, ltb, ltb→lt}
 use lib.IntN.{ℤ, pos, negℤ, natAbs, _+ℤ_, _-ℤ_, _*ℤ_}
 use lib.Signed.{mag}
-use mir.Syntax.{Width}
-use mir.Val.{SFits, toZ, ofZ, hbits}
-use mir.Facts.{toZ-ofZ, toZ-pos}
+use mir.Syntax.{Width, w64}
+use mir.Val.{Fits, SFits, toZ, ofZ, hbits}
+use mir.Facts.{toZ-ofZ, toZ-pos, fits-le, fits-lit}
 use Rattle.algebra.proofs.Order.{mag-natAbs, natAbs-+ℤ, natAbs-negℤ, natAbs-mul-le}
 
 pub record Holds (w : Width) (n : ℕ) (z : ℤ) (k : ℕ) : Type 0 where
@@ -102,3 +102,8 @@ module _ {w : Width} {m n j k : ℕ} {a b : ℤ} (x : Holds w m a j) (y : Holds 
 
   pub mul-holds : j * k < 2 ^ hbits w → Holds w (ofZ w (toZ w m *ℤ toZ w n)) (a *ℤ b) (j * k)
   mul-holds q = product-holds mul-size q
+
+-- ---- unsigned numbers of 64 bits
+-- a product whose factors are at most m and n
+pub factors-fit : {a b : ℕ} (m n : ℕ) → a ≤ m → b ≤ n → T (ltb (m * n) (2 ^ 64)) → Fits w64 (a * b)
+factors-fit m n p q t = fits-le (mul-le-mul p q) (fits-lit t)

@@ -1,18 +1,13 @@
 -- What the proofs of the judges share: the sum of a list of bytes and whether one is above a bound, each from an index
--- on as a loop takes them; a product that fits; and the laws by which a return is read off its tests.
+-- on as a loop takes them; and the laws by which a return is read off its tests.
 use mathlib.Core.Bool.{true}
 use mathlib.Core.List.{List}
 use mathlib.Core.Path.{_≡_}
-use Prim.Native.Nat.{ℕ, _+_, _*_, _^_, _≤_, _<_}
-use native.Mathlib.Nat.{mul-le-mul}
+use Prim.Native.Nat.{ℕ, _+_, _≤_, _<_}
 use native.Mathlib.Numerals.{add-one}
 use borrow.Author.Tests.{lt-ltb, le-ltb, eq-eqb, ne-eqb}
-use lib.Dec.{T, ltb}
 use lib.ListN.{length, drop, getD}
 use lib.Seq.{drop-cons}
-use mir.Facts.{fits-le, fits-lit}
-use mir.Syntax.{w64}
-use mir.Val.{Fits}
 use Rattle.model.specs.Psf.{total}
 use Rattle.model.specs.Refusal.{above}
 
@@ -28,8 +23,5 @@ module _ (l : List ℕ) (i : ℕ) (h : i < length l) where
   pub above-next : (k : ℕ) → getD l i 0 ≤ k → above k (drop i l) ≡ above k (drop (i + 1) l)
   unfolding above
   above-next k t = rw (add-one, drop-cons l i 0, le-ltb)
-
-pub product-fits : {a b : ℕ} (m n : ℕ) → a ≤ m → b ≤ n → T (ltb (m * n) (2 ^ 64)) → Fits w64 (a * b)
-product-fits m n p q t = fits-le (mul-le-mul p q) (fits-lit t)
 
 pub ruleset tests = (lt-ltb, le-ltb, eq-eqb, ne-eqb)

@@ -5,8 +5,8 @@ use mathlib.Core.Logic.{_⊎_, inl, inr}
 use mathlib.Core.List.{List}
 use Prim.Native.Nat.{ℕ, _+_, _*_, _-_, _/_, _%_, _≤_, _<_, min}
 use native.Mathlib.Decide.{decLt}
-use native.Mathlib.Nat.{lt-of-le-of-lt, add-le-add, mul-le-mul, mul-le-mul-right, suc-mul}
-use native.Mathlib.Nat.{div-add-mod', div-lt-iff-lt-mul, mod-lt}
+use native.Mathlib.Nat.{lt-of-le-of-lt, add-le-add, mul-le-mul, mul-le-mul-right}
+use native.Mathlib.Nat.{div-add-mod'}
 use native.Mathlib.Omega.{arith}
 use lib.Dec.{lit<}
 use lib.IntN.{ℤ, pos, _+ℤ_, _-ℤ_, _*ℤ_, +ℤ-idr, *ℤ-zero}
@@ -14,14 +14,11 @@ use lib.ListN.{length, getD}
 use lib.Seq.{ext-getD}
 use mir.Syntax.{w64}
 use mir.Val.{Fits}
+use Rattle.algebra.proofs.Grid.{rows-apart, row<, column<}
 use Rattle.model.specs.Basic.{squareAt}
 use Rattle.model.specs.Window.{addWindow}
 use Rattle.model.proofs.Basic.{length-tabulate, getD-tabulate, Far, squareAt-inside, squareAt-outside}
 use Rattle.window.specs.Run.{Ran}
-
--- a row further down starts a whole row later
-row-below : (a b width : ℕ) → a < b → a * width + width ≤ b * width
-row-below a b width h = rw suc-mul at (mul-le-mul-right width h)
 
 -- apart from the rest, since `omega` splits few differences at once
 index : (i left x reach col : ℕ) → left ≤ x → col ≤ left + reach
@@ -80,11 +77,11 @@ module _ (width reach row col : ℕ) (c : List ℤ) (amount : ℤ) where
     rows-next = record {
       long = n .long ∙ r .long;
       done = λ v x h k. elim (decLt v y) [
-        | yes p ↦ n .below (v * width + x) (omega (arith, row-below v y width p)) ∙ r .done v x p k
+        | yes p ↦ n .below (v * width + x) (omega (arith, rows-apart width p)) ∙ r .done v x p k
         | no p ↦ let o : v ≡ y = omega arith in rw o (this-row x k)
       ];
       rest = λ q h.
-          let b = row-below y (y + 1) width (omega arith) in
+          let b = rows-apart {y = y} {v = y + 1} width (omega arith) in
           n .beyond q (omega arith) ∙ r .rest q (omega arith);
     }
 
@@ -96,7 +93,7 @@ module _ (width reach row col : ℕ) (c : List ℤ) (amount : ℤ) where
       ext-getD (pos 0) t _ (r .long ∙ sym (length-tabulate (length t₀) _)) (λ q h.
       let p : q < length t₀ = omega (arith, r .long) in
       let e : q / width * width + q % width ≡ q = div-add-mod' q width in
-      (rw e at (each (q / width) (q % width) (div-lt-iff-lt-mul w .1 (omega arith)) (mod-lt q w)))
+      (rw e at (each (q / width) (q % width) (row< q w (omega arith)) (column< q w)))
       ∙ sym (getD-tabulate (length t₀) _ q (pos 0) p))
     where
       each : (v x : ℕ) → v < height → x < width → getD t (v * width + x) (pos 0) ≡ gained t₀ v x
@@ -109,12 +106,9 @@ module _ (width reach row col : ℕ) (c : List ℤ) (amount : ℤ) where
       ]
 
 -- ---- where the run of a row stands: its first index is small, and n entries from there end within the rows
-pub row-fits : (i n : ℕ) → i ≤ 262 → n ≤ 256 → Fits w64 (i * n)
-row-fits i n p q = record { fits = lt-of-le-of-lt (mul-le-mul p q) (lit< tt) }
-
 pub index-fits : (i n j : ℕ) → i ≤ 262 → n ≤ 256 → j ≤ 262 → Fits w64 (i * n + j)
 index-fits i n j p q r = record { fits = lt-of-le-of-lt (add-le-add (mul-le-mul p q) r) (lit< tt) }
 
 pub run-ends : (i j n : ℕ) {width height long : ℕ} → i < height → j + n ≤ width → long ≡ height * width
     → i * width + j + n ≤ long
-run-ends i j n {width} {height} p q e = omega (arith, row-below i height width p)
+run-ends i j n {width} {height} p q e = omega (arith, rows-apart width p)

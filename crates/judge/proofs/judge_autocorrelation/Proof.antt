@@ -5,7 +5,8 @@ use mathlib.Core.Path.{_∙_}
 use native.Mathlib.Omega.{arith}
 use borrow.Author.Needs.{needs}
 use Rattle.model.specs.Refusal.{autocorrelationRefusal}
-use Rattle.judge.proofs.Laws.{product-fits, tests}
+use Rattle.algebra.proofs.Machine.{factors-fit}
+use Rattle.judge.proofs.Laws.{tests}
 use Rattle.judge.proofs.judge_autocorrelation.Statement.{statement}
 use Rattle.judge.proofs.judge_autocorrelation.Tie as tie
 
@@ -20,7 +21,7 @@ add-side : tie.Need-add-side
 add-side c = search needs
 
 mul-judge-slices : tie.Need-mul-judge-slices
-mul-judge-slices c = product-fits 13 13 (omega arith) (omega arith) tt
+mul-judge-slices c = factors-fit 13 13 (omega arith) (omega arith) tt
 
 judge-slices-requires : tie.Need-judge-slices-requires
 judge-slices-requires c κs = search needs

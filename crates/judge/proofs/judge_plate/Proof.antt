@@ -10,7 +10,7 @@ use mir.Syntax.{w64}
 use mir.Val.{Fits}
 use Rattle.model.specs.Refusal.{Refusal, firstOf, either, badSize, badRadius, badLength, badSum, badDot, plateRefusal}
 use Rattle.model.proofs.Refusal.{none, first-here, first-past, first-append, size-inside}
-use Rattle.judge.proofs.Laws.{product-fits}
+use Rattle.algebra.proofs.Machine.{factors-fit}
 use Rattle.judge.proofs.judge_plate.Statement.{statement}
 use Rattle.judge.proofs.judge_plate.Tie as tie
 
@@ -23,7 +23,7 @@ module _ (w h r : ℕ) where
   sized e z =
       let (size, (radius, _)) = none measures tt e z in
       let (wide, high) = size-inside w h size in
-      (product-fits 256 256 (high .1) (wide .1) tt, ltb-false 3 r radius)
+      (factors-fit 256 256 (high .1) (wide .1) tt, ltb-false 3 r radius)
 
   module _ (psf gray dots : List ℕ) (table : ℕ) where
     abbrev slices : List Refusal

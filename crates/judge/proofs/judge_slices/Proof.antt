@@ -5,7 +5,8 @@ use native.Mathlib.Nat.{mul-le-mul}
 use native.Mathlib.Omega.{arith}
 use borrow.Author.Needs.{needs}
 use borrow.Author.Tests.{lt-ltb, le-ltb}
-use Rattle.judge.proofs.Laws.{product-fits, tests}
+use Rattle.algebra.proofs.Machine.{factors-fit}
+use Rattle.judge.proofs.Laws.{tests}
 use Rattle.judge.proofs.judge_slices.Statement.{statement}
 use Rattle.judge.proofs.judge_slices.Tie as tie
 
@@ -16,7 +17,7 @@ add-side : tie.Need-add-side
 add-side c = search needs
 
 mul-if1 : tie.Need-mul-if1
-mul-if1 c = product-fits 7 7 (omega arith) (omega arith) tt
+mul-if1 c = factors-fit 7 7 (omega arith) (omega arith) tt
 
 returns : tie.Need-returns
 returns c = search tests

@@ -7,7 +7,8 @@ use borrow.Author.Needs.{needs}
 use mir.Syntax.{w32}
 use mir.Val.{toZ}
 use mir.Facts.{toZ-ofZ}
-use Rattle.window.proofs.Rows.{Rows, rows-start, rows-next, rows-end, row-fits, index-fits, run-ends}
+use Rattle.algebra.proofs.Machine.{factors-fit}
+use Rattle.window.proofs.Rows.{Rows, rows-start, rows-next, rows-end, index-fits, run-ends}
 use Rattle.window.proofs.add_window.Statement.{statement}
 use Rattle.window.proofs.add_window.Tie as tie
 
@@ -43,7 +44,7 @@ loop-holds : tie.Need-loop-holds Inv-loop μ-loop
 loop-holds c = (omega arith, rw (c .low2 .ensures) (rows-start _ _ _ _ _ _))
 
 mul-at : tie.Need-mul-at Inv-loop μ-loop
-mul-at c = row-fits _ _ (omega arith) (omega arith)
+mul-at c = factors-fit 262 256 (omega arith) (omega arith) tt
 
 add-at : tie.Need-add-at Inv-loop μ-loop
 add-at c = index-fits _ _ _ (omega arith) (omega arith) (omega arith)
@@ -55,7 +56,7 @@ sub-from : tie.Need-sub-from Inv-loop μ-loop
 sub-from c = omega arith
 
 mul-from : tie.Need-mul-from Inv-loop μ-loop
-mul-from c = row-fits _ _ (omega arith) (omega arith)
+mul-from c = factors-fit 262 256 (omega arith) (omega arith) tt
 
 add-from-2 : tie.Need-add-from-2 Inv-loop μ-loop
 add-from-2 c = omega arith
