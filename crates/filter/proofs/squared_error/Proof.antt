@@ -22,15 +22,17 @@ slice-aggregate-square c = search needs
 
 square-requires : tie.Need-square-requires
 square-requires c κs =
-    let e = c .before in
-    (plate-fits _ _ _ _ _ _ _ (sym (e .before .judge-plate .ensures) ∙ e .if1 .left), lit≤ tt)
+    (plate-fits _ _ _ _ _ _ _ (sym (c .before .before .judge-plate .ensures) ∙ c .before .if1 .left), lit≤ tt)
 
 returns-2 : tie.Need-returns-2
 unfolding squaredErrorCall
 returns-2 c =
-    let e = c .before .before .before in
     ap result (read-back w64 (c .before .square .result) (c .before .square .ok) ∙ c .before .square .ensures)
-    ∙ is-done tt _ _ (sym (e .before .judge-plate .ensures ∙ plate-again _ _ _ _ _ _) ∙ e .if1 .left) refl .0
+    ∙ is-done tt _ _
+    (sym (plate-again _ _ _ _ _ _)
+    ∙ sym (c .before .before .before .before .judge-plate .ensures)
+    ∙ c .before .before .before .if1 .left)
+    refl .0
 
 pub squared-error-spec : {M : Type 1} → statement M
 squared-error-spec =
