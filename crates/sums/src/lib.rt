@@ -15,7 +15,7 @@ ghost use Rattle.sums.specs.Scatter.{mirrored, laid, Steady};
 use window::add_window;
 
 // every entry 0
-pub fn clear(table: &mut [i32])
+fn clear(table: &mut [i32])
     ensures { λ _. ⌜ now (table .exit) ≡ tabulate (length (now (table .entry))) (λ q. pos 0) ⌝ }
 {
     let mut q: usize = 0;
@@ -26,7 +26,7 @@ pub fn clear(table: &mut [i32])
 }
 
 // the bytes as signed numbers
-pub fn widen(bytes: &[u8], out: &mut [i32])
+fn widen(bytes: &[u8], out: &mut [i32])
     requires { ⌜ length (now out) ≡ length (now bytes) ⌝ }
     ensures { λ _. ⌜ now (out .exit) ≡ map pos (now (bytes .entry)) ⌝ }
 {
@@ -38,7 +38,7 @@ pub fn widen(bytes: &[u8], out: &mut [i32])
 }
 
 // the error of a cell: 255 for a dot, less the gray
-pub fn error_at(gray: &[u8], dots: &[u8], n: usize) -> i32
+fn error_at(gray: &[u8], dots: &[u8], n: usize) -> i32
     requires { ⌜ (n < length (now gray)) × (n < length (now dots)) × (getD (now dots) n 0 ≤ 1) ⌝ }
     ensures { λ r. ⌜ (r ≡ errorOf 255 (now (gray .entry)) (now (dots .entry)) n) × (natAbs r ≤ 255) ⌝ }
 {
@@ -46,7 +46,7 @@ pub fn error_at(gray: &[u8], dots: &[u8], n: usize) -> i32
 }
 
 // The windows of p with each of its own entries, laid at the mirrored place of that entry: Σₖ p(k) × p(k + d) at each d.
-pub fn correlate(radius: usize, p: &[i32], out: &mut [i32])
+fn correlate(radius: usize, p: &[i32], out: &mut [i32])
     requires { ⌜ (radius ≤ 3) × (length (now p) ≡ (2 * radius + 1) * (2 * radius + 1)) × Small 255 (now p) ⌝ }
     requires { ⌜ length (now out) ≡ (4 * radius + 1) * (4 * radius + 1) ⌝ }
     ensures { λ _. ⌜ now (out .exit) ≡ mirrored radius (now (p .entry)) ⌝ }
@@ -66,7 +66,7 @@ pub fn correlate(radius: usize, p: &[i32], out: &mut [i32])
 }
 
 // The windows of c with each cell's error, laid around that cell: Σₙ e(n) × c(q - n) at each cell q.
-pub fn lay(
+fn lay(
     width: usize,
     height: usize,
     radius: usize,
@@ -93,7 +93,7 @@ pub fn lay(
 }
 
 // Σ e(m) × T(m) over the cells, the T(m) being in the table
-pub fn weigh(gray: &[u8], dots: &[u8], table: &[i32]) -> i64
+fn weigh(gray: &[u8], dots: &[u8], table: &[i32]) -> i64
     requires { ⌜ (length (now dots) ≡ length (now gray)) × (length (now table) ≡ length (now gray)) ⌝ }
     requires { ⌜ (length (now gray) ≤ 65536) × AtMost 1 (now dots) × Small mostFiltered (now table) ⌝ }
     ensures { λ r. ⌜ r ≡ sumTo (length (now (gray .entry))) (λ m. errorOf 255 (now (gray .entry)) (now (dots .entry)) m *ℤ getD (now (table .entry)) m (pos 0)) ⌝ }
