@@ -210,10 +210,6 @@ mag-natAbs (pos n) = omega arith
 mag-natAbs (negsuc n) = omega arith
 
 -- ---- the order of products
-nonneg-nn : (a : ℤ) → pos 0 ≤ℤ a → nn a ≡ zero
-nonneg-nn (pos n) h = refl
-nonneg-nn (negsuc n) h = absurd (h .le)
-
 pub 0≤-mul : (a b : ℤ) → pos 0 ≤ℤ a → pos 0 ≤ℤ b → pos 0 ≤ℤ (a *ℤ b)
 0≤-mul (pos a) (pos b) h k = omega (arith, ordℤ)
 0≤-mul (pos a) (negsuc b) h k = absurd (k .le)
@@ -223,12 +219,6 @@ pub 0≤-square : (a : ℤ) → pos 0 ≤ℤ (a *ℤ a)
 0≤-square (pos a) = omega (arith, ordℤ)
 0≤-square (negsuc a) = omega (arith, ordℤ)
 
-pub *ℤ-mono : (k a b : ℤ) → pos 0 ≤ℤ k → a ≤ℤ b → (k *ℤ a) ≤ℤ (k *ℤ b)
-*ℤ-mono k a b h l =
-    show≤ (k ∷ a ∷ b ∷ []) (search reify depth 40)
-    (rw (nonneg-nn k h) (omega (arith, NatL.mul-le-mul-left (pp k) (≤ℤ→ l))))
-
--- ---- the order of sums, and a chain
 pub +ℤ-mono : (a b c d : ℤ) → a ≤ℤ b → c ≤ℤ d → (a +ℤ c) ≤ℤ (b +ℤ d)
 +ℤ-mono a b c d h k = show≤ (a ∷ b ∷ c ∷ d ∷ []) (search reify depth 40) (omega (arith, ordℤ))
 
