@@ -137,9 +137,6 @@ pub ruleset ordℤ = (≤ℤ→, <ℤ→, →≤ℤ, →<ℤ)
 
 -- ---- expressions: read a hypothesis, show a goal
 module _ (ρ : List ℤ) {a b : ℤ} (r : Is ρ a × Is ρ b) where
-  pub read≤ : a ≤ℤ b → up (r .0) + dn (r .1) ≤ up (r .1) + dn (r .0)
-  read≤ h = omega (arith, ≤ℤ→ h, pn (r .0), pn (r .1))
-
   pub read< : a <ℤ b → up (r .0) + dn (r .1) < up (r .1) + dn (r .0)
   read< h = omega (arith, <ℤ→ h, pn (r .0), pn (r .1))
 

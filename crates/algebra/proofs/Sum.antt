@@ -7,7 +7,7 @@ use native.Mathlib.Nat as NatL
 use native.Mathlib.Decide.{ℕ-discrete}
 use native.Mathlib.Omega.{arith}
 use lib.Dec.{T, eqb, eqb→eq, eqb-refl}
-use lib.IntN.{ℤ, pos, negℤ, _+ℤ_, _*ℤ_, +ℤ-assoc, +ℤ-idl, +ℤ-idr, zero-*ℤ, *ℤ-zero, *ℤ-comm, negℤ-+ℤ}
+use lib.IntN.{ℤ, pos, _+ℤ_, _*ℤ_, +ℤ-assoc, +ℤ-idl, +ℤ-idr, zero-*ℤ, *ℤ-zero, *ℤ-comm}
 use Rattle.algebra.specs.Sum.{sumTo, sumOver}
 use Rattle.algebra.specs.Quadratic.{point}
 use Rattle.algebra.proofs.Ring.{+ℤ-swap4, *ℤ-distl}
@@ -44,11 +44,6 @@ sum-scale (suc n) a f = ap (λ x. x +ℤ a *ℤ f n) (sum-scale n a f) ∙ sym (
 
 pub sum-scale-r : (n : ℕ) (f : ℕ → ℤ) (a : ℤ) → sumTo n (λ i. f i *ℤ a) ≡ sumTo n f *ℤ a
 sum-scale-r n f a = sum-cong n (λ i h. *ℤ-comm (f i) a) ∙ sum-scale n a f ∙ *ℤ-comm a (sumTo n f)
-
-pub sum-neg : (n : ℕ) (f : ℕ → ℤ) → sumTo n (λ i. negℤ (f i)) ≡ negℤ (sumTo n f)
-unfolding sumTo
-sum-neg zero f = refl
-sum-neg (suc n) f = ap (λ x. x +ℤ negℤ (f n)) (sum-neg n f) ∙ sym (negℤ-+ℤ (sumTo n f) (f n))
 
 -- ---- two sums exchanged, a sum split, and a product of two sums
 pub sum-swap : (m n : ℕ) (f : ℕ → ℕ → ℤ) → sumTo m (λ i. sumTo n (λ j. f i j)) ≡ sumTo n (λ j. sumTo m (λ i. f i j))
@@ -111,22 +106,7 @@ module _ {A : Type 0} where
   sumOver-cong [] h = refl
   sumOver-cong (c ∷ l) h = ap₂ (λ x y. x +ℤ y) (h c) (sumOver-cong l h)
 
-  pub sumOver-add : (l : List A) (f g : A → ℤ) → sumOver l (λ c. f c +ℤ g c) ≡ sumOver l f +ℤ sumOver l g
-  unfolding sumOver
-  sumOver-add [] f g = refl
-  sumOver-add (c ∷ l) f g =
-      ap (λ x. f c +ℤ g c +ℤ x) (sumOver-add l f g)
-      ∙ +ℤ-swap4 (f c) (g c) (sumOver l f) (sumOver l g)
-
   pub sumOver-scale : (l : List A) (a : ℤ) (f : A → ℤ) → sumOver l (λ c. a *ℤ f c) ≡ a *ℤ sumOver l f
   unfolding sumOver
   sumOver-scale [] a f = sym (*ℤ-zero a)
   sumOver-scale (c ∷ l) a f = ap (λ x. a *ℤ f c +ℤ x) (sumOver-scale l a f) ∙ sym (*ℤ-distl a (f c) (sumOver l f))
-
-  pub sumOver-swap : (n : ℕ) (l : List A) (f : ℕ → A → ℤ)
-      → sumTo n (λ i. sumOver l (λ c. f i c)) ≡ sumOver l (λ c. sumTo n (λ i. f i c))
-  unfolding sumOver
-  sumOver-swap n [] f = sum-nil n
-  sumOver-swap n (c ∷ l) f =
-      sum-add n (λ i. f i c) (λ i. sumOver l (f i))
-      ∙ ap (λ x. sumTo n (λ i. f i c) +ℤ x) (sumOver-swap n l f)

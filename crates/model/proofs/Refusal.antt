@@ -31,24 +31,15 @@ none (suc n when true ∷ l) t e z = absurd (omega arith)
 none (suc n when false ∷ l) t e z = (refl, none l t e z)
 
 -- the first of two lists, by those of each
-pub first-here : (l k : List Refusal) {x : ℕ} → x ≡ firstOf l → (x ≡ 0 → ⊥) → x ≡ firstOf (l ++ k)
-first-here [] k e h = absurd (h e)
-first-here (n when true ∷ l) k e h = e
-first-here (n when false ∷ l) k e h = first-here l k e h
-
-pub first-past : (l k : List Refusal) {x : ℕ} → None l → x ≡ firstOf k → x ≡ firstOf (l ++ k)
-first-past [] k h e = e
-first-past (n when b ∷ l) k h e = rw (h .0) (first-past l k (h .1) e)
-
-pub either-first : (a b : ℕ) → (a ≡ 0 → ⊥) → a ≡ either a b
-either-first zero b h = absurd (h refl)
-either-first (suc a) b h = refl
-
 pub first-append : (l k : List Refusal) → T (numbered l) → either (firstOf l) (firstOf k) ≡ firstOf (l ++ k)
 first-append [] k t = refl
 first-append (zero when b ∷ l) k t = absurd t
 first-append (suc n when true ∷ l) k t = refl
 first-append (suc n when false ∷ l) k t = first-append l k t
+
+pub either-first : (a b : ℕ) → (a ≡ 0 → ⊥) → a ≡ either a b
+either-first zero b h = absurd (h refl)
+either-first (suc a) b h = refl
 
 -- ---- the conditions
 neither : (a b : Bool) → a || b ≡ false → (a ≡ false) × (b ≡ false)

@@ -1,1 +1,2 @@
+-- The tables that the functions of this crate build, as their contracts name them.
 pub mod Scatter

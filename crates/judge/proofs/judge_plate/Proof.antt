@@ -1,7 +1,7 @@
 -- `judge::judge_plate` meets its contract: the list of refusals is in three parts, each with a judge of its own, and
 -- the first number that a judge finds is the first of the whole list.
 use mathlib.Core.List.{List, [], _∷_, _++_}
-use mathlib.Core.Path.{_≡_, _∙_, ap₂}
+use mathlib.Core.Path.{_≡_, sym, _∙_, ap, ap₂}
 use Prim.Native.Nat.{ℕ, _*_, _≤_}
 use borrow.Author.Needs.{needs}
 use borrow.Author.Tests.{ltb-false}
@@ -9,7 +9,7 @@ use lib.ListN.{length}
 use mir.Syntax.{w64}
 use mir.Val.{Fits}
 use Rattle.model.specs.Refusal.{Refusal, firstOf, either, badSize, badRadius, badLength, badSum, badDot, plateRefusal}
-use Rattle.model.proofs.Refusal.{none, first-here, first-past, first-append, size-inside}
+use Rattle.model.proofs.Refusal.{none, either-first, first-append, size-inside}
 use Rattle.algebra.proofs.Machine.{factors-fit}
 use Rattle.judge.proofs.judge_plate.Statement.{statement}
 use Rattle.judge.proofs.judge_plate.Tie as tie
@@ -37,13 +37,20 @@ module _ (w h r : ℕ) where
 
     by-measures : {x : ℕ} → x ≡ firstOf measures → (x ≡ 0 → ⊥) → Answer x
     unfolding plateRefusal
-    by-measures = first-here measures (slices ++ last)
+    by-measures {x} e n =
+        either-first x (firstOf (slices ++ last)) n
+        ∙ ap (λ m. either m (firstOf (slices ++ last))) e
+        ∙ first-append measures (slices ++ last) tt
 
-    by-rest : {x a b y : ℕ} → x ≡ firstOf measures → x ≡ 0
-        → a ≡ firstOf slices → b ≡ firstOf last → y ≡ either a b → Answer y
+    by-rest : {x a b y : ℕ} → x ≡ firstOf measures → x ≡ 0 → a ≡ firstOf slices → b ≡ firstOf last → y ≡ either a b
+        → Answer y
     unfolding plateRefusal
     by-rest e z f g h =
-        first-past measures (slices ++ last) (none measures tt e z) (h ∙ ap₂ either f g ∙ first-append slices last tt)
+        h
+        ∙ ap₂ either f g
+        ∙ first-append slices last tt
+        ∙ ap (λ m. either m (firstOf (slices ++ last))) (sym z ∙ e)
+        ∙ first-append measures (slices ++ last) tt
 
 judge-measures-requires : tie.Need-judge-measures-requires
 judge-measures-requires c κs = search needs
