@@ -1,6 +1,6 @@
 -- Laws of the general definitions: a choice, a list by its entries, a list that a loop fills, and an entry of a square,
 -- inside it and outside.
-use mathlib.Core.Path.{_≡_, refl, sym, _∙_, ap, ap₂}
+use mathlib.Core.Path.{_≡_, refl, sym, _∙_, ap, ap₂, subst}
 use mathlib.Core.Bool.{Bool, true, false}
 use mathlib.Core.Logic.{_⊎_, inl, inr}
 use mathlib.Core.List.{List, [], _∷_, _++_, map}
@@ -11,7 +11,8 @@ use native.Mathlib.Omega.{arith}
 use lib.Dec.{T, ltb, leb→le, ltb→lt, lt→ltb}
 use lib.IntN.{ℤ, pos, negsuc, negℤ, _+ℤ_, _-ℤ_}
 use lib.Signed.{_≤ℤ_, _<ℤ_}
-use lib.ListN.{length, getD, set, length-append, length-map, length-set, List·getD-append, List·getD-map}
+use lib.ListN.{length, getD, set, length-append, length-map, length-set}
+use lib.ListN.{List·getD-append, List·getD-map, List·getD-eq-default}
 use lib.Seq.{getD-at, getD-set-same, getD-set-other, ext-getD}
 use Rattle.algebra.proofs.Solver.{ring!, reify}
 use Rattle.algebra.proofs.Order.{show≤, show<, show≡, read<, read≡}
@@ -43,6 +44,16 @@ getD-tabulate (suc n) f i z h = go (ℕ-discrete i n) (getD-tabulate n f i z)
     go (no e) ih =
         List·getD-append (tabulate n f) (f n ∷ []) z i (rw (length-tabulate n f) (omega arith))
         ∙ ih (omega arith)
+
+-- what holds of the entries, and of the default, holds at every place
+pub tabulate-each {ℓ} : {A : Type ℓ} (P : A → Type 0) (z : A) (n : ℕ) (f : ℕ → A) → P z
+    → ((i : ℕ) → i < n → P (f i)) → (i : ℕ) → P (getD (tabulate n f) i z)
+tabulate-each P z n f p h i = go (decLt i n)
+  where
+    go : Dec (i < n) → P (getD (tabulate n f) i z)
+    go (yes l) = subst P (sym (getD-tabulate n f i z l)) (h i l)
+    go (no l) =
+        subst P (sym (List·getD-eq-default (tabulate n f) z {n = i} (rw (length-tabulate n f) (omega arith)))) p
 
 -- a list of n entries that are those of f
 pub tabulate-by {ℓ} : {A : Type ℓ} (z : A) (n : ℕ) (f : ℕ → A) (l : List A) → length l ≡ n

@@ -2,12 +2,14 @@
 use mathlib.Core.Path.{refl}
 use Rattle.algebra.specs.Sum.{sumTo, sumFrom}
 use Rattle.model.specs.Basic.{tabulate, gridAt, squareAt}
-use Rattle.model.specs.Psf.{psfAt, autocorrelation}
+use Rattle.model.specs.Psf.{total, psfAt, autocorrelation}
 use Rattle.model.specs.Error.{kernel, error, filteredError, filteredErrors, squaredError}
+use Rattle.model.specs.Screen.{bayer, thresholdAt, ordered, startDots}
 use Rattle.model.specs.Examples.{Examples}
 
 pub examples : Examples
-unfolding sumTo sumFrom tabulate gridAt squareAt psfAt autocorrelation kernel error filteredError filteredErrors squaredError
+unfolding sumTo sumFrom tabulate gridAt squareAt psfAt autocorrelation kernel error filteredError filteredErrors
+    squaredError total bayer thresholdAt ordered startDots
 examples =
     record {
       black-blank = refl;
@@ -21,4 +23,10 @@ examples =
       lopsided-at-0 = refl;
       lopsided-right = refl;
       lopsided-left = refl;
+      threshold-0-0 = refl;
+      threshold-0-1 = refl;
+      threshold-1-0 = refl;
+      threshold-1-1 = refl;
+      ordered-127 = refl;
+      ordered-128 = refl;
     }

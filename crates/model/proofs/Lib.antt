@@ -3,7 +3,11 @@ pub mod Basic
 pub mod Psf
 pub mod Error
 pub mod Window
+pub mod Screen
 pub mod Refusal
+pub mod Plate
+pub mod State
+pub mod Start
 pub mod Calls
 pub mod Examples
 pub mod Promises

@@ -1,29 +1,35 @@
 -- The promises of document 01 that are due so far, each proved by citing the law that does the work. That the public
--- calls answer and leave just this stands in their contracts (crates/filter/src/lib.rt), which cite the same
--- definitions.
-use mathlib.Core.Path.{_≡_, _∙_}
+-- calls answer and leave just this stands in their contracts (crates/filter/src/lib.rt, crates/starts/src/lib.rt),
+-- which cite the same definitions.
+use mathlib.Core.Path.{_≡_, refl, _∙_, subst}
 use mathlib.Core.Logic.{_⊎_, inl, inr}
-use mathlib.Core.List.{List, [], _∷_}
+use mathlib.Core.List.{List, [], _∷_, filter}
 use Prim.Native.Nat.{ℕ, _+_, _*_, _≤_}
-use native.Mathlib.Nat.{le-trans, mul-le-mul, mul-le-mul-right}
-use native.Mathlib.Omega.{arith}
+use native.Mathlib.Decide.{ℕ-discrete}
 use lib.IntN.{ℤ, pos, negℤ, natAbs, _+ℤ_, _*ℤ_}
 use lib.Signed.{_≤ℤ_, _<ℤ_}
 use lib.ListN.{length}
 use Rattle.algebra.specs.Sum.{sumFrom, sumOver}
 use Rattle.algebra.specs.Quadratic.{Increment, Within, edited}
-use Rattle.algebra.proofs.Order.{natAbs-above}
+use Rattle.model.specs.declared.Measures.{Measures}
+use Rattle.model.specs.declared.Stats.{Stats}
 use Rattle.model.specs.Basic.{AtMost}
 use Rattle.model.specs.Psf.{total, autocorrelation}
-use Rattle.model.specs.Error.{Target, targetOf, cells, kernel, error}
-use Rattle.model.specs.Error.{filteredError, squaredError, perceivedSquares}
-use Rattle.model.specs.Refusal.{plateRefusal, PlateFits}
+use Rattle.model.specs.Error.{Target, targetOf, targetFor, cells, kernel, error}
+use Rattle.model.specs.Error.{filteredError, filteredErrors, squaredError, perceivedSquares}
+use Rattle.model.specs.Refusal.{plateRefusal, startRefusal, PlateFits}
+use Rattle.model.specs.State.{freshStats, laterRefusal}
+use Rattle.model.specs.Screen.{startDots}
+use Rattle.model.specs.Calls.{result, Lent, withTable, startCall}
 use Rattle.model.specs.Examples.{Examples}
 use Rattle.model.proofs.Psf.{autocorrelation-even, autocorrelation-supported}
 use Rattle.model.proofs.Psf.{autocorrelation-nonneg, autocorrelation-total}
-use Rattle.model.proofs.Error.{filtered-edit, squared-edit, squared-perceived, squared-nonneg}
-use Rattle.model.proofs.Error.{filtered≤, squared≤, error≤}
-use Rattle.model.proofs.Refusal.{plate-again, plate-fits}
+use Rattle.model.proofs.Error.{filtered-edit, squared-edit, squared-perceived}
+use Rattle.model.proofs.Refusal.{plate-again, plate-fits, start-fits}
+use Rattle.model.proofs.Plate.{filtered-most, squared-least, squared-most}
+use Rattle.model.proofs.Calls.{was-done}
+use Rattle.model.proofs.State.{dots-counted}
+use Rattle.model.proofs.Start.{start-state, start-accepted}
 use Rattle.model.proofs.Examples.{examples}
 
 -- ---- the autocorrelation, of any psf
@@ -58,15 +64,10 @@ module _ (w h r : ℕ) (psf gray dots : List ℕ) (bytes : AtMost 255 gray) wher
   abbrev target : Target
   target = targetOf w h r psf gray
 
-  errors≤ : {table : ℕ} → PlateFits w h r psf gray dots table → (n : ℕ) → natAbs (error target dots n) ≤ 255
-  errors≤ f n = error≤ target 255 dots n (omega (arith, f .bits .each n)) (bytes .each n)
-
   -- |T| is at most 267,386,880
   pub table-is-bounded : (table m : ℕ) → plateRefusal w h r psf gray dots (table ∷ []) ≡ 0
       → natAbs (filteredError target dots m) ≤ 267386880
-  table-is-bounded table m e =
-      let f = plate-fits w h r psf gray dots table e in
-      filtered≤ target (f .wide .0) (f .psf-fits .square) 1024 255 (f .psf-fits .sum-high) dots (errors≤ f) m
+  table-is-bounded table m e = filtered-most w h r psf gray dots (plate-fits w h r psf gray dots table e) bytes m
 
   module _ (taken : plateRefusal w h r psf gray dots [] ≡ 0) where
     fits : PlateFits w h r psf gray dots (length gray)
@@ -78,15 +79,56 @@ module _ (w h r : ℕ) (psf gray dots : List ℕ) (bytes : AtMost 255 gray) wher
 
     -- so E ≥ 0
     pub squared-error-is-not-negative : pos 0 ≤ℤ squaredError target dots
-    squared-error-is-not-negative = squared-nonneg target (fits .wide .0) dots
+    squared-error-is-not-negative = squared-least w h r psf gray dots fits bytes
 
     -- E is at most 4,468,483,974,758,400
     pub squared-error-is-bounded : squaredError target dots ≤ℤ pos 4468483974758400
-    squared-error-is-bounded =
-        let f = fits in
-        natAbs-above (squaredError target dots) 4468483974758400
-        (le-trans (squared≤ target (f .wide .0) (f .psf-fits .square) 1024 255 (f .psf-fits .sum-high) dots (errors≤ f))
-        (mul-le-mul-right (255 * 267386880) (mul-le-mul (f .high .1) (f .wide .1))))
+    squared-error-is-bounded = squared-most w h r psf gray dots fits bytes
+
+-- ---- starts: what a start that is not refused answers and leaves
+module _ (m : Measures) (psf gray : List ℕ) where
+  pub record Begun (left : Lent) (s : Stats) : Type 0 where
+    -- E at the start and E now are the sum, over the dots left
+    pub start-error-is-sum : s .«start_error» ≡ squaredError (targetFor m psf gray) (left .dots)
+    pub error-is-sum : s .error ≡ squaredError (targetFor m psf gray) (left .dots)
+    -- E at the start is within 0 to 4,468,483,974,758,400
+    pub start-error-is-not-negative : pos 0 ≤ℤ s .«start_error»
+    pub start-error-is-bounded : s .«start_error» ≤ℤ pos 4468483974758400
+    -- the dots at the start are the number of dot bytes that are 1
+    pub start-dots-are-counted : s .«start_dots» ≡ length (filter (λ d. ℕ-discrete d 1) (left .dots))
+    -- the counts are 0
+    pub counts-are-0 : (s .on ≡ 0) × (s .off ≡ 0) × (s .swaps ≡ 0)
+    -- the table is that of the dots left
+    pub table-is-fresh : left .table ≡ filteredErrors (targetFor m psf gray) (left .dots)
+    -- what is left is what later calls accept: neither 1 to 7 nor 20 nor 21 is drawn
+    pub is-accepted : laterRefusal m psf gray (left .dots) (left .table) s ≡ 0
+
+  begun : (dots : List ℕ) (table : ℕ) → AtMost 255 gray → startRefusal m psf gray dots table ≡ 0
+      → Begun (withTable (targetFor m psf gray) (startDots m gray dots))
+      (freshStats (targetFor m psf gray) (startDots m gray dots))
+  unfolding freshStats
+  begun dots table bytes e =
+      let f = start-state m psf gray dots table bytes e in
+      record {
+        start-error-is-sum = refl;
+        error-is-sum = refl;
+        start-error-is-not-negative = f .start-low;
+        start-error-is-bounded = f .start-high;
+        start-dots-are-counted = dots-counted (startDots m gray dots) (start-fits m psf gray dots table e .bits);
+        counts-are-0 = (refl, refl, refl);
+        table-is-fresh = refl;
+        is-accepted = start-accepted m psf gray dots table bytes e;
+      }
+
+  pub start-begins : (dots : List ℕ) (table : List ℤ) (s : Stats) → AtMost 255 gray
+      → startCall m psf gray dots table .reply ≡ result s
+      → Begun (startCall m psf gray dots table .buffer) s
+  unfolding startCall
+  start-begins dots table s bytes e =
+      let (taken, value, same) = was-done _ _ (startRefusal m psf gray dots (length table)) refl e in
+      subst (λ o. Begun (o .buffer) s) same
+      (subst (Begun (withTable (targetFor m psf gray) (startDots m gray dots))) value
+      (begun dots (length table) bytes taken))
 
 -- ---- the law of an edit, of any target and step: the table and the squared error after cells gain amounts
 module _ (t : Target) (dots dots′ : List ℕ) (l : List Increment) (inside : Within (cells t) l)

@@ -1,16 +1,21 @@
--- The laws of the refusals: how the judge of a list is made of judges of its parts, and what a call that draws no refusal
--- was handed (`plate-fits`, `autocorrelation-fits`).
-use mathlib.Core.Bool.{Bool, true, false, true≢false, not, _||_}
+-- The laws of the refusals: how the judge of a list is made of judges of its parts, and what a call that draws no
+-- refusal was handed (`plate-fits`, `autocorrelation-fits`, `start-fits`).
+use mathlib.Core.Bool.{Bool, true, false, true≢false, not, _||_, _&&_}
 use mathlib.Core.List.{List, [], _∷_, _++_}
-use mathlib.Core.Path.{_≡_, refl}
+use mathlib.Core.Path.{_≡_, refl, sym, _∙_, ap, ap₂}
 use Prim.Native.Nat.{ℕ, zero, suc, _+_, _*_, _≤_}
 use native.Mathlib.Omega.{arith}
-use borrow.Author.Tests.{ltb-false, eqb-true, eqb-false, not-false}
+use borrow.Author.Tests.{ltb-false, eqb-true, eqb-false, not-false, eq-eqb, ne-eqb, le-ltb}
 use lib.Dec.{T, ltb, eqb}
 use lib.ListN.{length, getD}
+use Rattle.model.specs.declared.Measures.{Measures}
+use Rattle.model.specs.Basic.{AtMost}
 use Rattle.model.specs.Psf.{total}
+use Rattle.model.specs.Screen.{startDots}
 use Rattle.model.specs.Refusal.{Refusal, _when_, firstOf, either, outside, differs, above}
-use Rattle.model.specs.Refusal.{badSize, badRadius, badLength, badSum, badDot, autocorrelationRefusal, plateRefusal, PsfFits, PlateFits}
+use Rattle.model.specs.Refusal.{badSize, badRadius, badLength, badSum, badDot, badGiven, handed}
+use Rattle.model.specs.Refusal.{autocorrelationRefusal, plateRefusal, startRefusal, PsfFits, PlateFits}
+use Rattle.model.proofs.Screen.{start-long, start-bits}
 
 -- ---- the first of a list
 -- every number of the list is above 0
@@ -30,6 +35,10 @@ none (zero when b ∷ l) t e z = absurd t
 none (suc n when true ∷ l) t e z = absurd (omega arith)
 none (suc n when false ∷ l) t e z = (refl, none l t e z)
 
+pub drawn-none : (l : List Refusal) → None l → firstOf l ≡ 0
+drawn-none [] h = refl
+drawn-none (n when b ∷ l) h = rw (h .0) (drawn-none l (h .1))
+
 -- the first of two lists, by those of each
 pub first-append : (l k : List Refusal) → T (numbered l) → either (firstOf l) (firstOf k) ≡ firstOf (l ++ k)
 first-append [] k t = refl
@@ -41,10 +50,28 @@ pub either-first : (a b : ℕ) → (a ≡ 0 → ⊥) → a ≡ either a b
 either-first zero b h = absurd (h refl)
 either-first (suc a) b h = refl
 
+-- ---- a list judged in two parts, l and then k
+module _ (l k : List Refusal) (t : T (numbered l)) {x : ℕ} (e : x ≡ firstOf l) where
+  -- the first part draws a refusal
+  pub by-first : (x ≡ 0 → ⊥) → x ≡ firstOf (l ++ k)
+  by-first h = either-first x (firstOf k) h ∙ ap (λ m. either m (firstOf k)) e ∙ first-append l k t
+
+  -- both parts were judged
+  pub by-either : {y z : ℕ} → y ≡ firstOf k → z ≡ either x y → z ≡ firstOf (l ++ k)
+  by-either f g = g ∙ ap₂ either e f ∙ first-append l k t
+
+  -- the first part draws none
+  pub by-second : x ≡ 0 → {y : ℕ} → y ≡ firstOf k → y ≡ firstOf (l ++ k)
+  by-second z {y} f = by-either f (ap (λ m. either m y) (sym z))
+
 -- ---- the conditions
 neither : (a b : Bool) → a || b ≡ false → (a ≡ false) × (b ≡ false)
 neither true b h = absurd (true≢false h)
 neither false b h = (refl, h)
+
+infixr 30 _nor_
+pub _nor_ : {a b : Bool} → a ≡ false → b ≡ false → a || b ≡ false
+e nor f = rw (e, f) refl
 
 same : (m n : ℕ) → not (eqb m n) ≡ false → m ≡ n
 same m n h = eqb-true m n (not-false (eqb m n) h)
@@ -64,6 +91,11 @@ unfolding above
 none-above k [] h i = omega arith
 none-above k (x ∷ l) h zero = ltb-false k x (neither (ltb k x) (above k l) h .0)
 none-above k (x ∷ l) h (suc i) = none-above k l (neither (ltb k x) (above k l) h .1) i
+
+pub above-none : (k : ℕ) (l : List ℕ) → AtMost k l → above k l ≡ false
+unfolding above
+above-none k [] h = refl
+above-none k (x ∷ l) h = rw (le-ltb k x (h .each 0)) (above-none k l (record { each = λ i. h .each (suc i) }))
 
 -- every length of the list is n
 abbrev Alike : ℕ → List ℕ → Type 0
@@ -105,6 +137,29 @@ autocorrelation-fits r psf out e =
     let (p-is, (o-is, _)) = alike ((2 * r + 1) * (2 * r + 1)) cells (length psf) (out ∷ []) lent in
     (psf-by r psf radius p-is sum, o-is)
 
+-- a plate whose dots may stand for others of the same number
+plate-by : (w h r : ℕ) (psf gray dots : List ℕ) (table : ℕ) {n : ℕ}
+    → outside w || outside h ≡ false
+    → ltb 3 r ≡ false
+    → not (eqb (length psf) ((2 * r + 1) * (2 * r + 1))) || differs (h * w) (length gray ∷ n ∷ table ∷ []) ≡ false
+    → eqb (total psf) 0 || ltb 1024 (total psf) ≡ false
+    → (n ≡ h * w → length dots ≡ h * w)
+    → AtMost 1 dots
+    → PlateFits w h r psf gray dots table
+plate-by w h r psf gray dots table {n} size radius lent sum long bits =
+    let (w-inside, h-inside) = size-inside w h size in
+    let lengths : List ℕ = length gray ∷ n ∷ table ∷ [] in
+    let (p-is, (g-is, (d-is, (t-is, _)))) = alike ((2 * r + 1) * (2 * r + 1)) (h * w) (length psf) lengths lent in
+    record {
+      wide = w-inside;
+      high = h-inside;
+      psf-fits = psf-by r psf radius p-is sum;
+      gray-length = g-is;
+      dots-length = long d-is;
+      table-length = t-is;
+      bits = bits;
+    }
+
 -- the filtered error, handed a table of that length
 pub plate-fits : (w h r : ℕ) (psf gray dots : List ℕ) (table : ℕ)
     → plateRefusal w h r psf gray dots (table ∷ []) ≡ 0
@@ -114,14 +169,57 @@ plate-fits w h r psf gray dots table e =
     let lengths : List ℕ = length gray ∷ length dots ∷ table ∷ [] in
     let slices : List Refusal = badLength r psf (h * w) lengths ∷ badSum psf ∷ badDot dots ∷ [] in
     let (size, (radius, (lent, (sum, (dot, _))))) = none (badSize w h ∷ badRadius r ∷ slices) tt refl e in
-    let (w-inside, h-inside) = size-inside w h size in
-    let (p-is, (g-is, (d-is, (t-is, _)))) = alike ((2 * r + 1) * (2 * r + 1)) (h * w) (length psf) lengths lent in
-    record {
-      wide = w-inside;
-      high = h-inside;
-      psf-fits = psf-by r psf radius p-is sum;
-      gray-length = g-is;
-      dots-length = d-is;
-      table-length = t-is;
-      bits = record { each = none-above 1 dots dot };
-    }
+    plate-by w h r psf gray dots table size radius lent sum (λ e. e) (record { each = none-above 1 dots dot })
+
+-- a plate that fits draws none of 1, 2, 5, 6 and 7
+pub plate-none : (w h r : ℕ) (psf gray dots : List ℕ) (table : ℕ) → PlateFits w h r psf gray dots table
+    → None (badSize w h
+    ∷ badRadius r
+    ∷ badLength r psf (h * w) (length gray ∷ length dots ∷ table ∷ [])
+    ∷ badSum psf
+    ∷ badDot dots
+    ∷ [])
+plate-none w h r psf gray dots table f = (
+  within 256 w (f .wide) nor within 256 h (f .high),
+  (
+    le-ltb 3 r (f .psf-fits .near),
+    (
+      equal (f .psf-fits .square)
+          nor equal (f .gray-length)
+          nor equal (f .dots-length)
+          nor equal (f .table-length)
+          nor refl,
+      (within 1024 (total psf) (f .psf-fits .sum-low, f .psf-fits .sum-high), (above-none 1 dots (f .bits), tt)),
+    ),
+  ),
+)
+  where
+    within : (k n : ℕ) → (1 ≤ n) × (n ≤ k) → eqb n 0 || ltb k n ≡ false
+    within k n i = ne-eqb n 0 (λ e. omega (arith, i .0, e)) nor le-ltb k n (i .1)
+
+    equal : {m n : ℕ} → m ≡ n → not (eqb m n) ≡ false
+    equal {m} {n} e = ap not (eq-eqb m n e)
+
+-- a start, handed a table of that length: its own dots fit, and those given are as many
+module _ (m : Measures) (psf gray dots : List ℕ) (table : ℕ) (taken : startRefusal m psf gray dots table ≡ 0) where
+  abbrev lengths : List ℕ
+  lengths = length gray ∷ length dots ∷ table ∷ []
+
+  drawn : None (handed m psf lengths ++ (badGiven (m .start) dots ∷ []))
+  unfolding startRefusal
+  drawn = none (handed m psf lengths ++ (badGiven (m .start) dots ∷ [])) tt refl taken
+
+  pub start-given : length dots ≡ m .height * m .width
+  start-given =
+      let (_, (_, (_, (_, (lent, _))))) = drawn in
+      let side : ℕ = 2 * m .radius + 1 in
+      alike (side * side) (m .height * m .width) (length psf) lengths lent .1 .1 .0
+
+  pub start-fits : PlateFits (m .width) (m .height) (m .radius) psf gray (startDots m gray dots) table
+  start-fits =
+      let (size, (radius, (reach, (kind, (lent, (sum, (dot, _))))))) = drawn in
+      plate-by (m .width) (m .height) (m .radius) psf gray (startDots m gray dots) table size radius lent sum
+      (start-long m gray dots) (start-bits m gray dots (λ k. given (m .start) (ltb-false 2 (m .start) kind) k dot))
+    where
+      given : (k : ℕ) → k ≤ 2 → 2 ≤ k → eqb k 2 && above 1 dots ≡ false → AtMost 1 dots
+      given k a b h = record { each = none-above 1 dots (rw (eq-eqb k 2 (omega arith)) at h) }

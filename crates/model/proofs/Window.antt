@@ -5,12 +5,11 @@ use mathlib.Core.Bool.{Bool, true, false}
 use mathlib.Core.List.{List, [], _∷_, map}
 use Prim.Native.Nat.{ℕ, _+_, _*_, _-_, _/_, _%_, _≤_, _<_}
 use native.Mathlib.Nat as NatL
-use native.Mathlib.Decide.{decLt}
 use native.Mathlib.Omega.{arith}
 use native.Mathlib.Numerals.{add-one}
 use lib.Dec.{ltb}
 use lib.IntN.{ℤ, pos, negsuc, negℤ, natAbs, _+ℤ_, _-ℤ_, _*ℤ_, *ℤ-comm}
-use lib.ListN.{length, getD, List·getD-eq-default, List·getD-map}
+use lib.ListN.{length, getD, List·getD-map}
 use Rattle.algebra.specs.Sum.{sumTo, sumFrom}
 use Rattle.algebra.proofs.Solver.{ring!, reify}
 use Rattle.algebra.proofs.Order.{natAbs-mul-le, show≡}
@@ -21,19 +20,14 @@ use Rattle.model.specs.Basic.{pick, tabulate, gridAt, squareAt}
 use Rattle.model.specs.Psf.{psfAt, autocorrelation, autocorrelations}
 use Rattle.model.specs.Error.{Target, row, kernel, error}
 use Rattle.model.specs.Window.{gain, addWindow, scattered, Small, Scaled}
-use Rattle.model.proofs.Basic.{length-tabulate, getD-tabulate, tabulate-cong, square-map, square-inside}
+use Rattle.model.proofs.Basic.{length-tabulate, getD-tabulate, tabulate-each, tabulate-cong}
+use Rattle.model.proofs.Basic.{square-map, square-inside}
 use Rattle.model.proofs.Psf.{autocorrelations-at}
 use Rattle.model.proofs.Error.{kernel-symmetric}
 
 -- ---- sizes
 pub small-tabulate : (k n : ℕ) (f : ℕ → ℤ) → ((q : ℕ) → q < n → natAbs (f q) ≤ k) → Small k (tabulate n f)
-small-tabulate k n f h = record { each = λ q. go q (decLt q n) }
-  where
-    go : (q : ℕ) → Dec (q < n) → natAbs (getD (tabulate n f) q (pos 0)) ≤ k
-    go q (yes l) = rw (getD-tabulate n f q (pos 0) l) (h q l)
-    go q (no l) =
-        rw (List·getD-eq-default (tabulate n f) (pos 0) {n = q} (rw (length-tabulate n f) (omega arith)))
-        (omega arith)
+small-tabulate k n f h = record { each = tabulate-each (λ z. natAbs z ≤ k) (pos 0) n f (omega arith) h }
 
 pub small-bytes : {k : ℕ} (l : List ℕ) → ((i : ℕ) → getD l i 0 ≤ k) → Small k (map pos l)
 small-bytes {k} l h = record { each = λ q. subst (λ (z : ℤ). natAbs z ≤ k) (sym (List·getD-map pos l q 0)) (h q) }

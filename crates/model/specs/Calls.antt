@@ -7,9 +7,15 @@ use Rattle.model.specs.declared.Filled.{Filled}
 use Rattle.model.specs.declared.Filled.the-variants as Filled
 use Rattle.model.specs.declared.SquaredError.{SquaredError}
 use Rattle.model.specs.declared.SquaredError.the-variants as SquaredError
+use Rattle.model.specs.declared.Measures.{Measures}
+use Rattle.model.specs.declared.Stats.{Stats}
+use Rattle.model.specs.declared.Started.{Started}
+use Rattle.model.specs.declared.Started.the-variants as Started
 use Rattle.model.specs.Psf.{autocorrelations}
-use Rattle.model.specs.Error.{targetOf, filteredErrors, squaredError}
-use Rattle.model.specs.Refusal.{autocorrelationRefusal, plateRefusal}
+use Rattle.model.specs.Error.{Target, targetOf, targetFor, filteredErrors, squaredError}
+use Rattle.model.specs.Refusal.{autocorrelationRefusal, plateRefusal, startRefusal}
+use Rattle.model.specs.Screen.{startDots}
+use Rattle.model.specs.State.{freshStats}
 
 -- what an answer says: a result, or document 01's number
 pub data Reply (A : Type 0) : Type 0 where
@@ -24,6 +30,10 @@ filled (Filled.Refused n) = refused n
 abbrev pub valued : SquaredError → Reply ℤ
 valued (SquaredError.Value e) = result e
 valued (SquaredError.Refused n) = refused n
+
+abbrev pub started : Started → Reply Stats
+started (Started.Fresh s) = result s
+started (Started.Refused n) = refused n
 
 -- ---- a call: its answer, and what stands in the buffer that it is lent
 pub record Outcome (A B : Type 0) : Type 0 where
@@ -51,3 +61,19 @@ module _ (width height radius : ℕ) (psf gray dots : List ℕ) where
   squaredErrorCall =
       unless (plateRefusal width height radius psf gray dots []) tt
       (record { reply = result (squaredError (targetOf width height radius psf gray) dots); buffer = tt })
+
+-- the dots and the table, as a start and the later calls are lent them and leave them
+pub record Lent : Type 0 where
+  pub dots : List ℕ
+  pub table : List ℤ
+
+-- dots with their table
+abbrev pub withTable : Target → List ℕ → Lent
+withTable t dots = record { dots = dots; table = filteredErrors t dots }
+
+unfoldable pub startCall : Measures → (psf gray dots : List ℕ) (table : List ℤ) → Outcome Stats Lent
+startCall m psf gray dots table =
+    let t = targetFor m psf gray in
+    let begun = startDots m gray dots in
+    unless (startRefusal m psf gray dots (length table)) (record { dots = dots; table = table })
+    (record { reply = result (freshStats t begun); buffer = withTable t begun })

@@ -5,6 +5,7 @@ use Prim.Native.Nat.{ℕ, _+_, _*_, _/_, _%_}
 use lib.IntN.{ℤ, pos, negℤ, _-ℤ_, _*ℤ_}
 use lib.ListN.{getD}
 use Rattle.algebra.specs.Sum.{sumTo, sumFrom}
+use Rattle.model.specs.declared.Measures.{Measures}
 use Rattle.model.specs.Basic.{tabulate}
 use Rattle.model.specs.Psf.{psfAt, autocorrelation}
 
@@ -21,9 +22,17 @@ pub record Target : Type 0 where
 abbrev pub targetOf : ℕ → ℕ → ℕ → List ℕ → List ℕ → Target
 targetOf w h r psf gray = record { width = w; height = h; radius = r; psf = psf; gray = gray; step = 255 }
 
+-- the same by all the measures
+abbrev pub targetFor : Measures → List ℕ → List ℕ → Target
+targetFor m psf gray = targetOf (m .width) (m .height) (m .radius) psf gray
+
 -- the error of cell n: step × dot - gray
 abbrev pub errorOf : (step : ℕ) (gray dots : List ℕ) → ℕ → ℤ
 errorOf step gray dots n = pos step *ℤ pos (getD dots n 0) -ℤ pos (getD gray n 0)
+
+-- the largest E: 256² cells, each at most 255 × 267,386,880
+abbrev pub mostSquared : ℕ
+mostSquared = 4468483974758400
 
 module _ (t : Target) where
   abbrev pub cells : ℕ

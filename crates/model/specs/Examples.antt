@@ -4,8 +4,10 @@ use mathlib.Core.Path.{_≡_}
 use mathlib.Core.List.{List, [], _∷_}
 use Prim.Native.Nat.{ℕ}
 use lib.IntN.{pos, negsuc}
+use Rattle.model.specs.declared.Measures.{Measures}
 use Rattle.model.specs.Psf.{autocorrelation}
 use Rattle.model.specs.Error.{Target, targetOf, filteredErrors, squaredError}
+use Rattle.model.specs.Screen.{thresholdAt, startDots}
 
 -- 1 by 1, r 0, p 1
 abbrev pub single : ℕ → Target
@@ -22,6 +24,10 @@ lopsided = 0 ∷ 0 ∷ 0 ∷ 0 ∷ 1 ∷ 2 ∷ 0 ∷ 0 ∷ 0 ∷ []
 -- 2 by 1, r 1, with the even psf
 abbrev pub pair : ℕ → ℕ → Target
 pair a b = targetOf 2 1 1 even (a ∷ b ∷ [])
+
+-- 2 by 1, start kind 1
+abbrev pub orderedPair : Measures
+orderedPair = record { width = 2; height = 1; radius = 1; reach = 1; start = 1 }
 
 pub record Examples : Type 0 where
   -- 1 by 1, r 0, p 1, gray 255, blank: E 65025
@@ -40,3 +46,11 @@ pub record Examples : Type 0 where
   pub lopsided-at-0 : autocorrelation 1 lopsided (pos 0) (pos 0) ≡ pos 5
   pub lopsided-right : autocorrelation 1 lopsided (pos 0) (pos 1) ≡ pos 2
   pub lopsided-left : autocorrelation 1 lopsided (pos 0) (negsuc 0) ≡ pos 2
+  -- thresholds (0,0) 0, (0,1) 128, (1,0) 192, (1,1) 64
+  pub threshold-0-0 : thresholdAt 0 0 ≡ 0
+  pub threshold-0-1 : thresholdAt 0 1 ≡ 128
+  pub threshold-1-0 : thresholdAt 1 0 ≡ 192
+  pub threshold-1-1 : thresholdAt 1 1 ≡ 64
+  -- kind 1, 2 by 1: gray 127 127 gives 1 0; 128 128 gives 1 1
+  pub ordered-127 : startDots orderedPair (127 ∷ 127 ∷ []) (0 ∷ 0 ∷ []) ≡ 1 ∷ 0 ∷ []
+  pub ordered-128 : startDots orderedPair (128 ∷ 128 ∷ []) (0 ∷ 0 ∷ []) ≡ 1 ∷ 1 ∷ []

@@ -3,6 +3,8 @@ pub mod Basic
 pub mod Psf
 pub mod Error
 pub mod Window
+pub mod Screen
 pub mod Refusal
+pub mod State
 pub mod Calls
 pub mod Examples

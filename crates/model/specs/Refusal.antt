@@ -1,11 +1,12 @@
 -- Document 01's refusals because of the input: each is a number with its condition, and a call is refused with the number
 -- of the first in its list whose condition holds.
-use mathlib.Core.Bool.{Bool, true, false, _||_, not}
-use mathlib.Core.List.{List, [], _∷_}
+use mathlib.Core.Bool.{Bool, true, false, _||_, _&&_, not}
+use mathlib.Core.List.{List, [], _∷_, _++_}
 use mathlib.Core.Path.{_≡_}
 use Prim.Native.Nat.{ℕ, zero, suc, _+_, _*_, _≤_}
 use lib.Dec.{ltb, eqb}
 use lib.ListN.{length}
+use Rattle.model.specs.declared.Measures.{Measures}
 use Rattle.model.specs.Basic.{AtMost}
 use Rattle.model.specs.Psf.{total}
 
@@ -48,6 +49,14 @@ badSize width height = 1 when (outside width || outside height)
 abbrev pub badRadius : ℕ → Refusal
 badRadius radius = 2 when ltb 3 radius
 
+-- 3 reach above 6
+abbrev pub badReach : ℕ → Refusal
+badReach reach = 3 when ltb 6 reach
+
+-- 4 start kind above 2
+abbrev pub badKind : ℕ → Refusal
+badKind kind = 4 when ltb 2 kind
+
 -- 5 a lent slice of another length than its measure: the psf is (2r + 1)² long, the others as long as the cells
 abbrev pub badLength : ℕ → List ℕ → ℕ → List ℕ → Refusal
 badLength radius psf cells lengths =
@@ -60,6 +69,10 @@ badSum psf = 6 when (eqb (total psf) 0 || ltb 1024 (total psf))
 -- 7 a dot byte above 1
 abbrev pub badDot : List ℕ → Refusal
 badDot dots = 7 when above 1 dots
+
+-- 7 at a start: of kind 2 only, which takes the dots given
+abbrev pub badGiven : ℕ → List ℕ → Refusal
+badGiven kind dots = 7 when (eqb kind 2 && above 1 dots)
 
 -- ---- the calls, each by the parts that it is handed
 -- the autocorrelation, handed an output of that length
@@ -77,6 +90,22 @@ plateRefusal width height radius psf gray dots others =
     ∷ badSum psf
     ∷ badDot dots
     ∷ [])
+
+-- 1 to 6, of the calls that are handed all five measures, with the lengths of gray, dots and table
+abbrev pub handed : Measures → List ℕ → List ℕ → List Refusal
+handed m psf lengths =
+    badSize (m .width) (m .height)
+    ∷ badRadius (m .radius)
+    ∷ badReach (m .reach)
+    ∷ badKind (m .start)
+    ∷ badLength (m .radius) psf (m .height * m .width) lengths
+    ∷ badSum psf
+    ∷ []
+
+-- a start, handed a table of that length
+unfoldable pub startRefusal : Measures → List ℕ → List ℕ → List ℕ → ℕ → ℕ
+startRefusal m psf gray dots table =
+    firstOf (handed m psf (length gray ∷ length dots ∷ table ∷ []) ++ (badGiven (m .start) dots ∷ []))
 
 -- ---- what a call was handed that nothing refused
 pub record PsfFits (r : ℕ) (psf : List ℕ) : Type 0 where

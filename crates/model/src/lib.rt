@@ -9,6 +9,17 @@ pub struct Measures {
     pub start: usize,
 }
 
+// Document 01's ledger: the squared error at the start and now, the dots at the start, and how many toggles on, toggles
+// off and swaps were accepted since.
+pub struct Stats {
+    pub start_error: i64,
+    pub error: i64,
+    pub start_dots: u64,
+    pub on: u64,
+    pub off: u64,
+    pub swaps: u64,
+}
+
 // The answer of a call that fills a buffer: it is filled, or refused with the number of document 01.
 pub enum Filled {
     Done,
@@ -18,5 +29,11 @@ pub enum Filled {
 // The answer of the squared error: its value, or refused with the number of document 01.
 pub enum SquaredError {
     Value(i64),
+    Refused(u32),
+}
+
+// The answer of a start: a fresh ledger, or refused with the number of document 01.
+pub enum Started {
+    Fresh(Stats),
     Refused(u32),
 }

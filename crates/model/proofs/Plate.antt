@@ -1,0 +1,45 @@
+-- What holds of every plate that is not refused, its gray being made of bytes: how many cells it has, and the size
+-- of its errors, of T and of E.
+use mathlib.Core.List.{List}
+use Prim.Native.Nat.{ℕ, _*_, _≤_}
+use native.Mathlib.Nat.{le-trans, mul-le-mul, mul-le-mul-right}
+use native.Mathlib.Omega.{arith}
+use lib.IntN.{ℤ, pos, natAbs, _*ℤ_}
+use lib.Signed.{_≤ℤ_}
+use Rattle.algebra.specs.Sum.{sumTo}
+use Rattle.algebra.proofs.Order.{natAbs-above}
+use Rattle.model.specs.Basic.{AtMost}
+use Rattle.model.specs.Error.{Target, targetOf, kernel, error, filteredError, squaredError, mostSquared}
+use Rattle.model.specs.Refusal.{PlateFits}
+use Rattle.model.specs.Window.{mostFiltered}
+use Rattle.model.proofs.Error.{filtered-part≤, filtered≤, squared≤, squared-nonneg, error≤}
+
+-- its cells are at most 65,536
+pub few-cells : {w h r : ℕ} {psf gray dots : List ℕ} {table : ℕ} → PlateFits w h r psf gray dots table → h * w ≤ 65536
+few-cells f = mul-le-mul {n₂ = 256} {m₂ = 256} (f .high .1) (f .wide .1)
+
+module _ (w h r : ℕ) (psf gray dots : List ℕ) {table : ℕ}
+    (f : PlateFits w h r psf gray dots table) (bytes : AtMost 255 gray) where
+  abbrev target : Target
+  target = targetOf w h r psf gray
+
+  errors : (n : ℕ) → natAbs (error target dots n) ≤ 255
+  errors n = error≤ target 255 dots n (omega (arith, f .bits .each n)) (bytes .each n)
+
+  -- T, and each sum of its first terms
+  pub filtered-part-most : (n m : ℕ) → n ≤ h * w
+      → natAbs (sumTo n (λ i. kernel target i m *ℤ error target dots i)) ≤ mostFiltered
+  filtered-part-most =
+      filtered-part≤ target (f .wide .0) (f .psf-fits .square) 1024 255 (f .psf-fits .sum-high) dots errors
+
+  pub filtered-most : (m : ℕ) → natAbs (filteredError target dots m) ≤ mostFiltered
+  filtered-most = filtered≤ target (f .wide .0) (f .psf-fits .square) 1024 255 (f .psf-fits .sum-high) dots errors
+
+  pub squared-least : pos 0 ≤ℤ squaredError target dots
+  squared-least = squared-nonneg target (f .wide .0) dots
+
+  pub squared-most : squaredError target dots ≤ℤ pos mostSquared
+  squared-most =
+      natAbs-above (squaredError target dots) mostSquared
+      (le-trans (squared≤ target (f .wide .0) (f .psf-fits .square) 1024 255 (f .psf-fits .sum-high) dots errors)
+      (mul-le-mul-right (255 * mostFiltered) (few-cells f)))

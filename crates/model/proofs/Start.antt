@@ -1,0 +1,84 @@
+-- What a start answers and leaves, refused or not; and where it is not refused, its ledger and its table are fresh, and
+-- no later call refuses them.
+use mathlib.Core.List.{List, [], _∷_, _++_}
+use mathlib.Core.Path.{_≡_, refl, sym, _∙_, ap, subst}
+use Prim.Native.Nat.{ℕ}
+use lib.IntN.{ℤ}
+use lib.ListN.{length}
+use Rattle.model.specs.declared.Measures.{Measures}
+use Rattle.model.specs.declared.Stats.{Stats}
+use Rattle.model.specs.Basic.{AtMost}
+use Rattle.model.specs.Error.{Target, targetFor, filteredErrors}
+use Rattle.model.specs.Screen.{startDots}
+use Rattle.model.specs.Refusal.{Refusal, handed, badDot, badGiven, startRefusal, PlateFits}
+use Rattle.model.specs.State.{freshStats, badTable, badStats, laterRefusal, StateFits}
+use Rattle.model.specs.Calls.{result, refused, Lent, startCall}
+use Rattle.model.proofs.Error.{filtered-long}
+use Rattle.model.proofs.Calls.{is-refused, is-done}
+use Rattle.model.proofs.Refusal.{drawn-none, none, plate-none, start-fits}
+use Rattle.model.proofs.Plate.{squared-least, squared-most}
+use Rattle.model.proofs.State.{state-accepted, fresh-fits}
+
+-- ---- the answer and the buffers
+module _ (m : Measures) (psf gray dots : List ℕ) (table : List ℤ) where
+  pub start-refused : {x : ℕ} → x ≡ startRefusal m psf gray dots (length table) → (x ≡ 0 → ⊥)
+      → (refused x ≡ startCall m psf gray dots table .reply)
+      × ((dots ≡ startCall m psf gray dots table .buffer .dots)
+      × (table ≡ startCall m psf gray dots table .buffer .table))
+  unfolding startCall
+  start-refused e h =
+      let lent : Lent = record { dots = dots; table = table } in
+      let (reply, buffer) = is-refused lent _ (startRefusal m psf gray dots (length table)) e h in
+      (reply, (ap (λ l. l .dots) buffer, ap (λ l. l .table) buffer))
+
+  -- where the dots are those of the kind, and the table and the ledger are fresh
+  pub start-done : startRefusal m psf gray dots (length table) ≡ 0 → {d : List ℕ} {t : List ℤ} {s : Stats}
+      → d ≡ startDots m gray dots
+      → t ≡ filteredErrors (targetFor m psf gray) d
+      → s ≡ freshStats (targetFor m psf gray) d
+      → (result s ≡ startCall m psf gray dots table .reply)
+      × ((d ≡ startCall m psf gray dots table .buffer .dots)
+      × (t ≡ startCall m psf gray dots table .buffer .table))
+  unfolding startCall
+  start-done taken e f g =
+      let lent : Lent = record { dots = dots; table = table } in
+      let (reply, buffer) = is-done lent _ (startRefusal m psf gray dots (length table)) taken refl in
+      let table = f ∙ ap (filteredErrors (targetFor m psf gray)) e in
+      let stats = g ∙ ap (freshStats (targetFor m psf gray)) e in
+      (ap result stats ∙ reply, (e ∙ ap (λ l. l .dots) buffer, table ∙ ap (λ l. l .table) buffer))
+
+-- ---- what is left
+module _ (m : Measures) (psf gray dots : List ℕ) (table : ℕ) (bytes : AtMost 255 gray)
+    (taken : startRefusal m psf gray dots table ≡ 0) where
+  abbrev t : Target
+  t = targetFor m psf gray
+
+  abbrev begun : List ℕ
+  begun = startDots m gray dots
+
+  abbrev Fits : ℕ → Type 0
+  Fits = PlateFits (m .width) (m .height) (m .radius) psf gray begun
+
+  fits : Fits table
+  fits = start-fits m psf gray dots table taken
+
+  pub start-state : StateFits t begun (filteredErrors t begun) (freshStats t begun)
+  start-state =
+      fresh-fits t begun (fits .bits) (fits .dots-length)
+      (squared-least (m .width) (m .height) (m .radius) psf gray begun fits bytes)
+      (squared-most (m .width) (m .height) (m .radius) psf gray begun fits bytes)
+
+  pub start-accepted : laterRefusal m psf gray begun (filteredErrors t begun) (freshStats t begun) ≡ 0
+  unfolding laterRefusal startRefusal badTable badStats
+  start-accepted =
+      let lengths : List ℕ = length gray ∷ length dots ∷ table ∷ [] in
+      let judged : List Refusal = handed m psf lengths ++ (badGiven (m .start) dots ∷ []) in
+      let (_, (_, (reach, (kind, _)))) = none judged tt refl taken in
+      let T : List ℤ = filteredErrors t begun in
+      let left = subst Fits (fits .table-length ∙ sym (filtered-long t begun)) fits in
+      let (size, (radius, (lent, (sum, (dot, _)))))
+      = plate-none (m .width) (m .height) (m .radius) psf gray begun (length T) left in
+      drawn-none
+      (handed m psf (length gray ∷ length begun ∷ length T ∷ [])
+      ++ (badDot begun ∷ badTable t begun T ∷ badStats t begun (freshStats t begun) ∷ []))
+      (size, (radius, (reach, (kind, (lent, (sum, (dot, state-accepted t begun T (freshStats t begun) start-state)))))))
