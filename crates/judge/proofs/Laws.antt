@@ -1,15 +1,20 @@
 -- What the proofs of the judges share: the sum of a list of bytes and whether one is above a bound, each from an index
--- on as a loop takes them; and the laws by which a return is read off its tests.
+-- on as a loop takes them; the laws by which a return is read off its tests; and what is known once 1 and 2 are judged.
 use mathlib.Core.Bool.{true}
-use mathlib.Core.List.{List}
+use mathlib.Core.List.{List, _∷_}
 use mathlib.Core.Path.{_≡_}
-use Prim.Native.Nat.{ℕ, _+_, _≤_, _<_}
+use Prim.Native.Nat.{ℕ, _+_, _*_, _≤_, _<_}
 use native.Mathlib.Numerals.{add-one}
-use borrow.Author.Tests.{lt-ltb, le-ltb, eq-eqb, ne-eqb}
+use borrow.Author.Tests.{lt-ltb, le-ltb, eq-eqb, ne-eqb, ltb-false}
+use lib.Dec.{T}
 use lib.ListN.{length, drop, getD}
 use lib.Seq.{drop-cons}
+use mir.Syntax.{w64}
+use mir.Val.{Fits}
+use Rattle.algebra.proofs.Machine.{factors-fit}
 use Rattle.model.specs.Psf.{total}
-use Rattle.model.specs.Refusal.{above}
+use Rattle.model.specs.Refusal.{Refusal, firstOf, above, badSize, badRadius}
+use Rattle.model.proofs.Refusal.{numbered, none, size-inside}
 
 module _ (l : List ℕ) (i : ℕ) (h : i < length l) where
   pub total-next : total (drop i l) ≡ getD l i 0 + total (drop (i + 1) l)
@@ -25,3 +30,12 @@ module _ (l : List ℕ) (i : ℕ) (h : i < length l) where
   above-next k t = rw (add-one, drop-cons l i 0, le-ltb)
 
 pub ruleset tests = (lt-ltb, le-ltb, eq-eqb, ne-eqb)
+
+-- where neither 1 nor 2 is drawn, the product of the cells fits, and the radius is one that `judge_slices` takes
+pub sized : (w h r : ℕ) (k : List Refusal) {x : ℕ} → T (numbered k)
+    → x ≡ firstOf (badSize w h ∷ badRadius r ∷ k) → x ≡ 0
+    → Fits w64 (h * w) × (r ≤ 3)
+sized w h r k t e z =
+    let (size, (radius, _)) = none (badSize w h ∷ badRadius r ∷ k) t e z in
+    let (wide, high) = size-inside w h size in
+    (factors-fit 256 256 (high .1) (wide .1) tt, ltb-false 3 r radius)

@@ -4,12 +4,13 @@ ghost use mathlib.Core.Path.{_≡_};
 ghost use Prim.Native.Nat.{_≤_};
 ghost use lib.ListN.{length};
 ghost use Rattle.model.specs.Psf.{total};
-ghost use Rattle.model.specs.Refusal.{firstOf, either, above, badSize, badRadius, badLength, badSum, badDot};
-ghost use Rattle.model.specs.Refusal.{autocorrelationRefusal, plateRefusal};
+ghost use Rattle.model.specs.Refusal.{firstOf, either, above, badSize, badRadius, badReach, badKind, badLength, badSum};
+ghost use Rattle.model.specs.Refusal.{badDot, badGiven, handed, autocorrelationRefusal, plateRefusal, startRefusal};
+use model::Measures;
 
-// the sum of a few bytes
-fn sum(bytes: &[u8]) -> usize
-    requires { ⌜ length (now bytes) ≤ 49 ⌝ }
+// the sum of bytes, at most as many as the cells of the largest plate
+pub fn sum(bytes: &[u8]) -> usize
+    requires { ⌜ length (now bytes) ≤ 65536 ⌝ }
     ensures { λ r. ⌜ r ≡ total (now (bytes .entry)) ⌝ }
 {
     let mut sum: usize = 0;
@@ -67,6 +68,19 @@ pub fn judge_measures(width: usize, height: usize, radius: usize) -> u32
     0
 }
 
+// 3 and 4
+fn judge_options(reach: usize, kind: usize) -> u32
+    ensures { λ r. ⌜ r ≡ firstOf (badReach reach ∷ badKind kind ∷ []) ⌝ }
+{
+    if 6 < reach {
+        return 3;
+    }
+    if 2 < kind {
+        return 4;
+    }
+    0
+}
+
 // 5 and 6, of a psf of radius at most 3 and of slices that should be as long as `cells`
 pub fn judge_slices(
     radius: usize,
@@ -110,6 +124,36 @@ pub fn judge_dots(dots: &[u8]) -> u32
     if any_above(1, dots) { 7 } else { 0 }
 }
 
+// 7 at a start, which reads the dots given with kind 2 only
+fn judge_given(kind: usize, dots: &[u8]) -> u32
+    ensures { λ r. ⌜ r ≡ firstOf (badGiven kind (now (dots .entry)) ∷ []) ⌝ }
+{
+    if kind != 2 {
+        return 0;
+    }
+    judge_dots(dots)
+}
+
+// 1 to 6, of a call that is handed all five measures
+pub fn judge_handed(measures: Measures, psf: &[u8], gray: usize, dots: usize, table: usize) -> u32
+    ensures { λ r. ⌜ r ≡ firstOf (handed measures (now (psf .entry)) (gray ∷ dots ∷ table ∷ [])) ⌝ }
+{
+    let size = judge_measures(measures.width, measures.height, measures.radius);
+    let options = judge_options(measures.reach, measures.start);
+    let number = first(size, options);
+    if number != 0 {
+        return number;
+    }
+    judge_slices(
+        measures.radius,
+        psf,
+        measures.height * measures.width,
+        gray,
+        dots,
+        table,
+    )
+}
+
 // the whole list of the filtered error, handed a table of that length
 pub fn judge_plate(
     width: usize,
@@ -141,4 +185,14 @@ pub fn judge_autocorrelation(radius: usize, psf: &[u8], out: usize) -> u32
     }
     let side = 4 * radius + 1;
     judge_slices(radius, psf, side * side, out, out, out)
+}
+
+// the whole list of a start, handed a table of that length
+pub fn judge_start(measures: Measures, psf: &[u8], gray: &[u8], dots: &[u8], table: usize) -> u32
+    ensures { λ r. ⌜ r ≡ startRefusal measures
+        (now (psf .entry)) (now (gray .entry)) (now (dots .entry)) table ⌝ }
+{
+    let input = judge_handed(measures, psf, gray.len(), dots.len(), table);
+    let bytes = judge_given(measures.start, dots);
+    first(input, bytes)
 }
