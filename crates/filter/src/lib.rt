@@ -1,5 +1,5 @@
-// The public calls for the autocorrelation, the filtered error (document 01: the table) and the squared error. Each judges
-// what it is handed, and only then works; a refusal changes nothing.
+// The public calls for the autocorrelation, the filtered error (document 01: the table) and the squared error. Each
+// judges what it is handed, and only then works; a refusal changes nothing.
 ghost use mathlib.Core.Path.{_≡_};
 ghost use Rattle.model.specs.Calls.{filled, valued, autocorrelationCall, filteredErrorCall, squaredErrorCall};
 use judge::judge_autocorrelation;

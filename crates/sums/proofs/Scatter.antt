@@ -12,14 +12,14 @@ use Rattle.algebra.specs.Sum.{sumTo}
 use Rattle.algebra.proofs.Order.{natAbs-mul-le, natAbs-below}
 use Rattle.algebra.proofs.Sum.{sum-cong}
 use Rattle.algebra.proofs.SumOrder.{natAbs-sum}
-use Rattle.model.specs.Basic.{tabulate}
+use Rattle.model.specs.Basic.{tabulate, AtMost}
 use Rattle.model.specs.Psf.{total, autocorrelations}
 use Rattle.model.specs.Error.{Target, targetOf, errorOf, kernel, error, filteredError, filteredErrors, squaredError}
 use Rattle.model.specs.Refusal.{PsfFits, PlateFits}
 use Rattle.model.specs.Window.{addWindow, scattered, Small, mostFiltered}
 use Rattle.model.proofs.Basic.{length-tabulate, getD-tabulate, tabulate-cong}
 use Rattle.model.proofs.Psf.{autocorrelation-nonneg, autocorrelation≤}
-use Rattle.model.proofs.Error.{filtered-part≤, filtered≤, error≤}
+use Rattle.model.proofs.Plate.{filtered-part-most, filtered-most}
 use Rattle.model.proofs.Window.{small-tabulate, square-small, scattered-next, windows-filtered, windows-autocorrelation}
 use Rattle.sums.specs.Scatter.{mirroredAt, mirrored, laidAt, laid, Steady}
 
@@ -78,23 +78,16 @@ module _ (w h r : ℕ) (psf gray dots : List ℕ) where
       ∙ sum-cong (h * w) (λ m l.
       ap (λ z. errorOf 255 gray dots m *ℤ z) (getD-tabulate (h * w) (filteredError target dots) m (pos 0) l))
 
-  module _ {table : ℕ} (f : PlateFits w h r psf gray dots table) (bytes : (n : ℕ) → getD gray n 0 ≤ 255) where
-    errors-small : (n : ℕ) → natAbs (error target dots n) ≤ 255
-    errors-small n = error≤ target 255 dots n (omega (arith, f .bits .each n)) (bytes n)
-
+  module _ {table : ℕ} (f : PlateFits w h r psf gray dots table) (bytes : AtMost 255 gray) where
     pub laid-steady : Steady w h r (autocorrelations r psf) gray dots
     laid-steady =
-        record {
-          each = λ n q l. rw (laid-part n q)
-              (filtered-part≤ target (f .wide .0) (f .psf-fits .square) 1024 255 (f .psf-fits .sum-high)
-              dots errors-small n q l);
-        }
+        record { each = λ n q l. rw (laid-part n q) (filtered-part-most w h r psf gray dots f bytes n q l) }
 
     pub filtered-small : Small mostFiltered (filteredErrors target dots)
     unfolding filteredErrors
     filtered-small =
         small-tabulate mostFiltered (h * w) (filteredError target dots) (λ q l.
-        filtered≤ target (f .wide .0) (f .psf-fits .square) 1024 255 (f .psf-fits .sum-high) dots errors-small q)
+        filtered-most w h r psf gray dots f bytes q)
 
 -- the entries of the autocorrelation
 pub kernel-small : (r : ℕ) (psf : List ℕ) → PsfFits r psf → Small 1048576 (autocorrelations r psf)

@@ -1,5 +1,5 @@
-// The sums of document 01 over input that has been judged: the autocorrelation and the table, each built from zeros by one
-// window for each entry, and the squared error by one pass over the table.
+// The sums of document 01 over input that has been judged: the autocorrelation and the table, each built from zeros by
+// one window for each entry, and the squared error by one pass over the table.
 ghost use mathlib.Core.Path.{_≡_};
 ghost use mathlib.Core.List.{map};
 ghost use Prim.Native.Nat.{_+_, _*_, _<_, _≤_};
@@ -45,7 +45,7 @@ fn error_at(gray: &[u8], dots: &[u8], n: usize) -> i32
     255 * (dots[n] as i32) - (gray[n] as i32)
 }
 
-// The windows of p with each of its own entries, laid at the mirrored place of that entry: Σₖ p(k) × p(k + d) at each d.
+// The windows of p with each of its own entries, laid at the mirrored place of that entry: Σₖ p(k) × p(k + d) at d.
 fn correlate(radius: usize, p: &[i32], out: &mut [i32])
     requires { ⌜ (radius ≤ 3) × (length (now p) ≡ (2 * radius + 1) * (2 * radius + 1)) × Small 255 (now p) ⌝ }
     requires { ⌜ length (now out) ≡ (4 * radius + 1) * (4 * radius + 1) ⌝ }
@@ -77,9 +77,11 @@ fn lay(
 )
     requires { ⌜ (0 < width) × (width ≤ 256) × (height ≤ 256) × (radius ≤ 3) ⌝ }
     requires { ⌜ (length (now c) ≡ (4 * radius + 1) * (4 * radius + 1)) × Small 1048576 (now c) ⌝ }
-    requires { ⌜ (length (now gray) ≡ height * width) × (length (now dots) ≡ height * width) × (length (now table) ≡ height * width) ⌝ }
+    requires { ⌜ (length (now gray) ≡ height * width) × (length (now dots) ≡ height * width)
+        × (length (now table) ≡ height * width) ⌝ }
     requires { ⌜ AtMost 1 (now dots) × Steady width height radius (now c) (now gray) (now dots) ⌝ }
-    ensures { λ _. ⌜ now (table .exit) ≡ laid width height radius (now (c .entry)) (now (gray .entry)) (now (dots .entry)) ⌝ }
+    ensures { λ _. ⌜ now (table .exit) ≡ laid width height radius
+        (now (c .entry)) (now (gray .entry)) (now (dots .entry)) ⌝ }
 {
     clear(table);
     let mut n: usize = 0;
@@ -96,7 +98,8 @@ fn lay(
 fn weigh(gray: &[u8], dots: &[u8], table: &[i32]) -> i64
     requires { ⌜ (length (now dots) ≡ length (now gray)) × (length (now table) ≡ length (now gray)) ⌝ }
     requires { ⌜ (length (now gray) ≤ 65536) × AtMost 1 (now dots) × Small mostFiltered (now table) ⌝ }
-    ensures { λ r. ⌜ r ≡ sumTo (length (now (gray .entry))) (λ m. errorOf 255 (now (gray .entry)) (now (dots .entry)) m *ℤ getD (now (table .entry)) m (pos 0)) ⌝ }
+    ensures { λ r. ⌜ r ≡ sumTo (length (now (gray .entry))) (λ m.
+        errorOf 255 (now (gray .entry)) (now (dots .entry)) m *ℤ getD (now (table .entry)) m (pos 0)) ⌝ }
 {
     let mut sum: i64 = 0;
     let mut m: usize = 0;
@@ -129,13 +132,34 @@ pub fn filter(
     table: &mut [i32],
 )
     requires { ⌜ PlateFits width height radius (now psf) (now gray) (now dots) (length (now table)) ⌝ }
-    ensures { λ _. ⌜ now (table .exit) ≡ filteredErrors (targetOf width height radius (now (psf .entry)) (now (gray .entry))) (now (dots .entry)) ⌝ }
+    ensures { λ _. ⌜ now (table .exit) ≡ filteredErrors
+        (targetOf width height radius (now (psf .entry)) (now (gray .entry))) (now (dots .entry)) ⌝ }
 {
     let mut c = [0i32; 169];
     let side = 4 * radius + 1;
     let n = side * side;
     autocorrelate(radius, psf, &mut c[..n]);
     lay(width, height, radius, &c[..n], gray, dots, table);
+}
+
+// the table of a judged plate, and its squared error by one pass over the table
+pub fn filter_and_square(
+    width: usize,
+    height: usize,
+    radius: usize,
+    psf: &[u8],
+    gray: &[u8],
+    dots: &[u8],
+    table: &mut [i32],
+) -> i64
+    requires { ⌜ PlateFits width height radius (now psf) (now gray) (now dots) (length (now table)) ⌝ }
+    ensures { λ _. ⌜ now (table .exit) ≡ filteredErrors
+        (targetOf width height radius (now (psf .entry)) (now (gray .entry))) (now (dots .entry)) ⌝ }
+    ensures { λ r. ⌜ r ≡ squaredError
+        (targetOf width height radius (now (psf .entry)) (now (gray .entry))) (now (dots .entry)) ⌝ }
+{
+    filter(width, height, radius, psf, gray, dots, table);
+    weigh(gray, dots, table)
 }
 
 // the squared error of a judged plate, whose table is worked out in `scratch`
@@ -150,9 +174,9 @@ pub fn square(
 ) -> i64
     requires { ⌜ PlateFits width height radius (now psf) (now gray) (now dots) (length (now gray)) ⌝ }
     requires { ⌜ 65536 ≤ length (now scratch) ⌝ }
-    ensures { λ r. ⌜ r ≡ squaredError (targetOf width height radius (now (psf .entry)) (now (gray .entry))) (now (dots .entry)) ⌝ }
+    ensures { λ r. ⌜ r ≡ squaredError
+        (targetOf width height radius (now (psf .entry)) (now (gray .entry))) (now (dots .entry)) ⌝ }
 {
     let n = gray.len();
-    filter(width, height, radius, psf, gray, dots, &mut scratch[..n]);
-    weigh(gray, dots, &scratch[..n])
+    filter_and_square(width, height, radius, psf, gray, dots, &mut scratch[..n])
 }

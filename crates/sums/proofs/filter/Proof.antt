@@ -10,6 +10,7 @@ use lib.IntN.{ℤ}
 use lib.ListN.{length, take, length-append}
 use lib.Seq.{take-at}
 use Rattle.model.specs.Psf.{autocorrelations}
+use Rattle.model.specs.Error.{Target, targetOf, filteredErrors}
 use Rattle.model.specs.Window.{Small}
 use Rattle.model.proofs.Psf.{autocorrelations-long}
 use Rattle.sums.specs.Scatter.{Steady, laid}
@@ -58,6 +59,20 @@ module _ (c : tie.After-autocorrelate) where
       ≡ autocorrelations (s .args .radius) (s .args .psf .now)
   part-is l = take-at (c .autocorrelate .last .1 .1 .0) l n left-long ∙ c .autocorrelate .ensures
 
+  -- and what is laid with it
+  abbrev laid-by : List ℤ → List ℤ
+  laid-by p = laid (s .args .width) (s .args .height) (s .args .radius) p (s .args .gray .now) (s .args .dots .now)
+
+  abbrev target : Target
+  target = targetOf (s .args .width) (s .args .height) (s .args .radius) (s .args .psf .now) (s .args .gray .now)
+
+  laid-part-is : (l : List ℤ)
+      → laid-by (take n (c .autocorrelate .last .1 .1 .0 ++ l)) ≡ filteredErrors target (s .args .dots .now)
+  laid-part-is l =
+      ap laid-by (part-is l)
+      ∙ laid-is (s .args .width) (s .args .height) (s .args .radius) (s .args .psf .now) (s .args .gray .now)
+      (s .args .dots .now)
+
 array-share-prefix-c : tie.Need-array-share-prefix-c
 array-share-prefix-c c = simp length-append (omega (arith, left-long (c .before)))
 
@@ -80,7 +95,7 @@ lay-requires c κs =
             f .bits,
             subst (λ (p : List ℤ). Steady (a .width) (a .height) (a .radius) p (a .gray .now) (a .dots .now)) (sym is)
                 (laid-steady (a .width) (a .height) (a .radius) (a .psf .now) (a .gray .now) (a .dots .now)
-                f (λ i. omega (arith, b .before .before .before .shared-slice-known2 .given i))),
+                f (record { each = λ i. omega (arith, b .before .before .before .shared-slice-known2 .given i) })),
           ),
         ),
       ),
@@ -90,12 +105,7 @@ same-length : tie.Need-same-length
 same-length c = search needs
 
 returns : tie.Need-returns
-returns c =
-    let b = c .before .before .before .before .before in
-    let a = s b .args in
-    c .before .lay .ensures
-    ∙ ap (λ (p : List ℤ). laid (a .width) (a .height) (a .radius) p (a .gray .now) (a .dots .now)) (part-is b _)
-    ∙ laid-is (a .width) (a .height) (a .radius) (a .psf .now) (a .gray .now) (a .dots .now)
+returns c = c .before .lay .ensures ∙ laid-part-is (c .before .before .before .before .before) _
 
 pub filter-spec : {M : Type 1} → statement M
 filter-spec =
