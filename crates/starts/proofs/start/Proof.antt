@@ -1,0 +1,74 @@
+-- `starts::start` meets its contract: refused with the judge's number, or begun with the dots of its kind.
+use mathlib.Core.List.{List}
+use mathlib.Core.Path.{_≡_, sym, _∙_, subst}
+use Prim.Native.Nat.{ℕ}
+use borrow.Author.Needs.{needs}
+use lib.ListN.{length}
+use Rattle.model.specs.Refusal.{PlateFits, startRefusal}
+use Rattle.model.specs.Screen.{startDots}
+use Rattle.model.proofs.Refusal.{start-given, start-fits}
+use Rattle.model.proofs.Start.{start-refused, start-done}
+use Rattle.starts.proofs.start.Statement.{statement}
+use Rattle.starts.proofs.start.Tie as tie
+
+judge-start-requires : tie.Need-judge-start-requires
+judge-start-requires c κs = search needs
+
+same-length : tie.Need-same-length
+same-length c = search needs
+
+returns : tie.Need-returns
+returns c = start-refused _ _ _ _ _ (c .before .judge-start .ensures) (c .if1 .taken)
+
+-- what is known once nothing is refused
+module _ (c : tie.Else1) where
+  abbrev s : tie.Start
+  s = c .before .before .before .before .before .before
+
+  taken : startRefusal (s .args .measures) (s .args .psf .now) (s .args .gray .now) (s .args .dots .now)
+      (length (s .args .table .now)) ≡ 0
+  taken = sym (c .before .judge-start .ensures) ∙ c .if1 .left
+
+  abbrev Fits : List ℕ → Type 0
+  Fits dots =
+      PlateFits (s .args .measures .width) (s .args .measures .height) (s .args .measures .radius)
+      (s .args .psf .now) (s .args .gray .now) dots (length (s .args .table .now))
+
+  fits : Fits (startDots (s .args .measures) (s .args .gray .now) (s .args .dots .now))
+  fits = start-fits _ _ _ _ _ taken
+
+start-dots-requires : tie.Need-start-dots-requires
+start-dots-requires c κs =
+    let f = fits (c .before) in
+    (f .wide .0, (f .gray-length, start-given _ _ _ _ _ (taken (c .before))))
+
+begin-requires : tie.Need-begin-requires
+begin-requires c κs =
+    let k = c .before .before .before .before in
+    subst (Fits (k .before .before)) (sym (k .start-dots .ensures)) (fits (k .before .before))
+
+same-length-2 : tie.Need-same-length-2
+same-length-2 c = search needs
+
+same-length-3 : tie.Need-same-length-3
+same-length-3 c = search needs
+
+returns-2 : tie.Need-returns-2
+returns-2 c =
+    let b = c .before in
+    let k = b .before .before .before .before .before in
+    start-done _ _ _ _ _ (taken (k .before .before))
+    (k .start-dots .ensures) (b .begin .ensures .0) (b .begin .ensures .1)
+
+pub start-spec : {M : Type 1} → statement M
+start-spec =
+    tie.close
+    (tie.spec
+    judge-start-requires
+    same-length
+    returns
+    start-dots-requires
+    begin-requires
+    same-length-2
+    same-length-3
+    returns-2)

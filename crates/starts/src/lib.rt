@@ -1,0 +1,74 @@
+// The public call that starts a plate: it judges what it is handed, writes the dots of the kind asked for and their
+// table, and answers a fresh ledger. A refusal changes nothing.
+ghost use mathlib.Core.Path.{_≡_};
+ghost use lib.ListN.{length};
+ghost use Rattle.model.specs.Error.{targetOf, filteredErrors};
+ghost use Rattle.model.specs.Refusal.{PlateFits};
+ghost use Rattle.model.specs.State.{freshStats};
+ghost use Rattle.model.specs.Calls.{started, startCall};
+use judge::judge_start;
+use judge::sum;
+use model::Measures;
+use model::Started;
+use model::Stats;
+use screen::start_dots;
+use sums::filter_and_square;
+
+// the table of judged dots, and a fresh ledger
+fn begin(
+    width: usize,
+    height: usize,
+    radius: usize,
+    psf: &[u8],
+    gray: &[u8],
+    dots: &[u8],
+    table: &mut [i32],
+) -> Stats
+    requires { ⌜ PlateFits width height radius (now psf) (now gray) (now dots) (length (now table)) ⌝ }
+    ensures { λ _. ⌜ now (table .exit) ≡ filteredErrors
+        (targetOf width height radius (now (psf .entry)) (now (gray .entry))) (now (dots .entry)) ⌝ }
+    ensures { λ r. ⌜ r ≡ freshStats
+        (targetOf width height radius (now (psf .entry)) (now (gray .entry))) (now (dots .entry)) ⌝ }
+{
+    let error = filter_and_square(width, height, radius, psf, gray, dots, table);
+    let count = sum(dots);
+    Stats {
+        start_error: error,
+        error: error,
+        start_dots: count as u64,
+        on: 0,
+        off: 0,
+        swaps: 0,
+    }
+}
+
+// A start of the kind that the measures name: 0 all blank, 1 by the thresholds, 2 the dots given.
+pub fn start(
+    measures: Measures,
+    psf: &[u8],
+    gray: &[u8],
+    dots: &mut [u8],
+    table: &mut [i32],
+) -> Started
+    ensures { λ r. ⌜ started r ≡ startCall measures
+        (now (psf .entry)) (now (gray .entry)) (now (dots .entry)) (now (table .entry)) .reply ⌝ }
+    ensures { λ r. ⌜ now (dots .exit) ≡ startCall measures
+        (now (psf .entry)) (now (gray .entry)) (now (dots .entry)) (now (table .entry)) .buffer .dots ⌝ }
+    ensures { λ r. ⌜ now (table .exit) ≡ startCall measures
+        (now (psf .entry)) (now (gray .entry)) (now (dots .entry)) (now (table .entry)) .buffer .table ⌝ }
+{
+    let number = judge_start(measures, psf, gray, dots, table.len());
+    if number != 0 {
+        return Started::Refused(number);
+    }
+    start_dots(measures, gray, dots);
+    Started::Fresh(begin(
+        measures.width,
+        measures.height,
+        measures.radius,
+        psf,
+        gray,
+        dots,
+        table,
+    ))
+}
