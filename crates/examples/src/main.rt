@@ -1,5 +1,6 @@
-// Runs the public calls on the examples of document 01 and on input that each refusal number is drawn for, and prints the
-// answers, with what every lent buffer holds afterwards. The file stdout beside src/ is what must be printed.
+// Runs the public calls on the examples of document 01 and on input that each refusal number is drawn for, and prints
+// the answers, with what every lent buffer holds afterwards. The file stdout beside src/ is what must be printed.
+mod kinds;
 mod show;
 
 use show::autocorrelation;
@@ -177,4 +178,5 @@ fn main() {
     squared_errors();
     squared_errors_refused_by_lengths();
     squared_errors_refused_by_contents();
+    kinds::run();
 }

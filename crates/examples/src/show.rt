@@ -1,7 +1,10 @@
 // Makes one call and prints one line: what it is called with, the answer, and the buffer's numbers where one is lent.
 use libc::STDOUT_FILENO;
 use model::Filled;
+use model::Measures;
 use model::SquaredError;
+use model::Started;
+use model::Stats;
 
 fn print(text: &[u8]) {
     io::write_all(STDOUT_FILENO, text);
@@ -38,6 +41,35 @@ fn print_buffer(buffer: &[i32]) {
         print_entry(buffer[i]);
         i += 1;
     }
+}
+
+fn print_count(name: &[u8], count: u64) {
+    print(name);
+    io::print_decimal(STDOUT_FILENO, count);
+}
+
+fn print_byte(x: u8) {
+    print_count(b" ", x as u64);
+}
+
+fn print_bytes(bytes: &[u8]) {
+    let mut i: usize = 0;
+    while i < bytes.len() {
+        print_byte(bytes[i]);
+        i += 1;
+    }
+}
+
+// a ledger in its order: E at the start and now, dots at the start, toggles on and off, swaps
+fn print_stats(stats: Stats) {
+    print(b": E ");
+    print_number(stats.start_error);
+    print(b" ");
+    print_number(stats.error);
+    print_count(b", from dots ", stats.start_dots);
+    print_count(b", on ", stats.on);
+    print_count(b", off ", stats.off);
+    print_count(b", swaps ", stats.swaps);
 }
 
 // the answer of a call that fills a buffer, and the buffer
@@ -92,5 +124,26 @@ pub fn squared_error(
         }
         SquaredError::Refused(number) => print_refused(number),
     }
+    print(b"\n");
+}
+
+pub fn start(
+    label: &[u8],
+    measures: Measures,
+    psf: &[u8],
+    gray: &[u8],
+    dots: &mut [u8],
+    table: &mut [i32],
+) {
+    print(b"start, ");
+    print(label);
+    match starts::start(measures, psf, gray, dots, table) {
+        Started::Fresh(stats) => print_stats(stats),
+        Started::Refused(number) => print_refused(number),
+    }
+    print(b"; dots");
+    print_bytes(dots);
+    print(b"; table");
+    print_buffer(table);
     print(b"\n");
 }
