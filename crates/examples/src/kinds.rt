@@ -1,8 +1,7 @@
 // Starts of each kind, and input that each refusal number of a start is drawn for.
+use crate::EVEN;
 use crate::show::start;
 use model::Measures;
-
-const EVEN: [u8; 9] = [0, 0, 0, 1, 2, 1, 0, 0, 0];
 
 // a plate of 2 by 1 with a psf of radius 1
 fn pair(label: &[u8], kind: usize, psf: &[u8], gray: &[u8], dots: &mut [u8], table: &mut [i32]) {

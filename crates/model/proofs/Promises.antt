@@ -17,18 +17,18 @@ use Rattle.model.specs.Basic.{AtMost}
 use Rattle.model.specs.Psf.{total, autocorrelation}
 use Rattle.model.specs.Error.{Target, targetOf, targetFor, cells, kernel, error}
 use Rattle.model.specs.Error.{filteredError, filteredErrors, squaredError, perceivedSquares}
-use Rattle.model.specs.Refusal.{plateRefusal, startRefusal, PlateFits}
-use Rattle.model.specs.State.{freshStats, laterRefusal}
+use Rattle.model.specs.Refusal.{firstOf, plateRefusal, startRefusal, PlateFits}
+use Rattle.model.specs.State.{freshStats, badTable, badStats, laterRefusal, StateFits}
 use Rattle.model.specs.Screen.{startDots}
 use Rattle.model.specs.Calls.{result, Lent, withTable, startCall}
 use Rattle.model.specs.Examples.{Examples}
 use Rattle.model.proofs.Psf.{autocorrelation-even, autocorrelation-supported}
 use Rattle.model.proofs.Psf.{autocorrelation-nonneg, autocorrelation-total}
 use Rattle.model.proofs.Error.{filtered-edit, squared-edit, squared-perceived}
-use Rattle.model.proofs.Refusal.{plate-again, plate-fits, start-fits}
+use Rattle.model.proofs.Refusal.{none, drawn-none, plate-again, plate-fits, start-fits}
 use Rattle.model.proofs.Plate.{filtered-most, squared-least, squared-most}
 use Rattle.model.proofs.Calls.{was-done}
-use Rattle.model.proofs.State.{dots-counted}
+use Rattle.model.proofs.State.{dots-counted, state-accepted, state-known}
 use Rattle.model.proofs.Start.{start-state, start-accepted}
 use Rattle.model.proofs.Examples.{examples}
 
@@ -129,6 +129,20 @@ module _ (m : Measures) (psf gray : List ℕ) where
       subst (λ o. Begun (o .buffer) s) same
       (subst (Begun (withTable (targetFor m psf gray) (startDots m gray dots))) value
       (begun dots (length table) bytes taken))
+
+-- ---- the state, of any target and step: 20 and 21 are drawn exactly where it does not fit
+module _ (t : Target) (dots : List ℕ) (table : List ℤ) (s : Stats) where
+  pub fitting-state-is-accepted : StateFits t dots table s
+      → firstOf (badTable t dots table ∷ badStats t dots s ∷ []) ≡ 0
+  fitting-state-is-accepted f =
+      drawn-none (badTable t dots table ∷ badStats t dots s ∷ []) (state-accepted t dots table s f)
+
+  pub accepted-state-fits : length table ≡ cells t
+      → firstOf (badTable t dots table ∷ badStats t dots s ∷ []) ≡ 0
+      → StateFits t dots table s
+  unfolding badTable badStats
+  accepted-state-fits long e =
+      state-known t dots table s long (none (badTable t dots table ∷ badStats t dots s ∷ []) tt refl e)
 
 -- ---- the law of an edit, of any target and step: the table and the squared error after cells gain amounts
 module _ (t : Target) (dots dots′ : List ℕ) (l : List Increment) (inside : Within (cells t) l)

@@ -65,7 +65,7 @@ module _ (l k : List Refusal) (t : T (numbered l)) {x : ℕ} (e : x ≡ firstOf 
   by-second z {y} f = by-either f (ap (λ m. either m y) (sym z))
 
 -- ---- the conditions
-neither : (a b : Bool) → a || b ≡ false → (a ≡ false) × (b ≡ false)
+pub neither : (a b : Bool) → a || b ≡ false → (a ≡ false) × (b ≡ false)
 neither true b h = absurd (true≢false h)
 neither false b h = (refl, h)
 

@@ -1,24 +1,28 @@
--- Laws of the state: the dot total counts the dots; what draws neither 20 nor 21; and a fresh state draws neither.
-use mathlib.Core.Bool.{Bool, true, false}
+-- Laws of the state: the dot total counts the dots; the state that fits, and no other, draws neither 20 nor 21; and a
+-- fresh state fits.
+use mathlib.Core.Bool.{Bool, true, false, not}
 use mathlib.Core.Logic.{ite}
 use mathlib.Core.List.{List, [], _∷_, filter}
 use mathlib.Core.Path.{_≡_, refl, sym, _∙_, ap, subst}
-use Prim.Native.Nat.{ℕ, zero, suc, _+_, _*_, _≤_, _<_}
+use Prim.Native.Nat.{ℕ, zero, suc, _+_, _*_, _^_, _≤_, _<_}
 use native.Mathlib.Decide.{ℕ-discrete}
-use native.Mathlib.Nat.{mul-zero}
+use native.Mathlib.Nat.{mul-zero, not-suc-le-zero}
 use native.Mathlib.Omega.{arith}
-use borrow.Author.Tests.{le-ltb}
-use lib.Dec.{T, lit≤}
+use borrow.Author.Tests.{le-ltb, ltb-false}
+use lib.Dec.{T, ltb, lit≤}
 use lib.IntN.{ℤ, pos, +ℤ-invr}
-use lib.Signed.{ltZ, _≤ℤ_, ≤ℤ-refl, clashℤ}
+use lib.Signed.{ltZ, _≤ℤ_, ≤ℤ-refl, ltZ-no, clashℤ}
 use lib.ListN.{length, getD}
+use Rattle.algebra.proofs.Solver.{reify}
+use Rattle.algebra.proofs.Order.{ordℤ, show≡}
 use Rattle.model.specs.declared.Stats.{Stats}
 use Rattle.model.specs.Basic.{AtMost}
 use Rattle.model.specs.Psf.{total}
 use Rattle.model.specs.Error.{Target, cells, filteredError, filteredErrors, squaredError, mostSquared}
-use Rattle.model.specs.State.{dotTotal, unequal, someBelow, freshStats, badTable, badStats, StateFits}
-use Rattle.model.proofs.Basic.{getD-tabulate}
-use Rattle.model.proofs.Refusal.{None, _nor_}
+use Rattle.model.specs.State.{dotTotal, unequal, someBelow, some, faults, freshStats}
+use Rattle.model.specs.State.{badTable, badStats, StateFits}
+use Rattle.model.proofs.Basic.{getD-tabulate, tabulate-by}
+use Rattle.model.proofs.Refusal.{None, neither, _nor_}
 
 -- ---- the dot total
 rest : {k x : ℕ} {l : List ℕ} → AtMost k (x ∷ l) → AtMost k l
@@ -51,13 +55,42 @@ not-below a b h = go (ltZ a b) refl
     go true e = clashℤ {a = a} {b = b} (record { lt = subst T (sym e) tt }) h
     go false e = refl
 
+at-least : (a b : ℤ) → ltZ a b ≡ false → b ≤ℤ a
+at-least a b h = ltZ-no {a = a} {b = b} (subst (λ x. T (not x)) (sym h) tt)
+
 same : {a b : ℤ} → a ≡ b → unequal a b ≡ false
 same {a} {b} e = rw (e, not-below b b (≤ℤ-refl b)) refl
+
+equal : (a b : ℤ) → unequal a b ≡ false → a ≡ b
+equal a b h =
+    let (low, high) = neither (ltZ a b) (ltZ b a) h in
+    show≡ (a ∷ b ∷ []) (search reify depth 40) (omega (arith, ordℤ, at-least a b low, at-least b a high))
 
 none-below : (n : ℕ) (f : ℕ → Bool) → ((i : ℕ) → i < n → f i ≡ false) → someBelow n f ≡ false
 unfolding someBelow
 none-below zero f h = refl
 none-below (suc n) f h = rw (none-below n f (λ i k. h i (omega arith)), h n (omega arith)) refl
+
+all-below : (n : ℕ) (f : ℕ → Bool) → someBelow n f ≡ false → (i : ℕ) → i < n → f i ≡ false
+unfolding someBelow
+all-below zero f h i l = absurd (not-suc-le-zero l)
+all-below (suc n) f h i l = go (ℕ-discrete i n) (all-below n f (both .0) i)
+  where
+    both : (someBelow n f ≡ false) × (f n ≡ false)
+    both = neither (someBelow n f) (f n) h
+
+    go : Dec (i ≡ n) → (i < n → f i ≡ false) → f i ≡ false
+    go (yes e) ih = rw e (both .1)
+    go (no e) ih = ih (omega arith)
+
+-- no test of a list holds
+abbrev Clear : List Bool → Type 0
+Clear [] = Unit {0}
+Clear (b ∷ l) = (b ≡ false) × Clear l
+
+clear : (l : List Bool) → some l ≡ false → Clear l
+clear [] h = tt
+clear (b ∷ l) h = let (first, others) = neither b (some l) h in (first, clear l others)
 
 module _ (t : Target) (dots : List ℕ) where
   -- neither 20 nor 21 is drawn
@@ -79,6 +112,30 @@ module _ (t : Target) (dots : List ℕ) where
       tt,
     ),
   )
+
+  -- and only such a state draws neither
+  pub state-known : (table : List ℤ) (s : Stats) → length table ≡ cells t
+      → None (badTable t dots table ∷ badStats t dots s ∷ []) → StateFits t dots table s
+  unfolding badTable badStats filteredErrors
+  state-known table s long drawn =
+      let (error, (start, (count, (few, (total, (fall, _)))))) = clear (faults t dots s) (drawn .1 .0) in
+      let first = s .«start_error» in
+      let most : ℕ = 2 ^ 44 in
+      let (low, (high, _)) = clear (ltZ first (pos 0) ∷ ltZ (pos mostSquared) first ∷ []) start in
+      let (on, (off, (swaps, _))) = clear (ltb most (s .on) ∷ ltb most (s .off) ∷ ltb most (s .swaps) ∷ []) count in
+      record {
+        table-is = tabulate-by (pos 0) (cells t) (filteredError t dots) table long (λ i h.
+            equal _ _ (all-below (cells t) _ (drawn .0) i h));
+        error-is = equal _ _ error;
+        start-low = at-least _ _ low;
+        start-high = at-least _ _ high;
+        on-few = ltb-false _ _ on;
+        off-few = ltb-false _ _ off;
+        swaps-few = ltb-false _ _ swaps;
+        dots-fit = ltb-false _ _ few;
+        total-is = equal _ _ total;
+        fall = at-least _ _ fall;
+      }
 
   -- of dots with their table and a fresh ledger
   pub fresh-fits : AtMost 1 dots → length dots ≡ cells t

@@ -78,9 +78,12 @@ module _ (t : Target) (dots : List ℕ) where
   abbrev pub wrongFall : Stats → Bool
   wrongFall s = ltZ (s .«start_error» -ℤ s .error) (pos (t .step) *ℤ pos (accepted s))
 
+  -- the six together
+  abbrev pub faults : Stats → List Bool
+  faults s = wrongError s ∷ wrongStart s ∷ wrongCount s ∷ wrongDots s ∷ wrongTotal s ∷ wrongFall s ∷ []
+
   unfoldable pub badStats : Stats → Refusal
-  badStats s =
-      21 when some (wrongError s ∷ wrongStart s ∷ wrongCount s ∷ wrongDots s ∷ wrongTotal s ∷ wrongFall s ∷ [])
+  badStats s = 21 when some (faults s)
 
 -- 1 to 7, 20 and 21: a later call that names no cell
 unfoldable pub laterRefusal : Measures → (psf gray dots : List ℕ) (table : List ℤ) → Stats → ℕ
@@ -90,7 +93,7 @@ laterRefusal m psf gray dots table s =
     (handed m psf (length gray ∷ length dots ∷ length table ∷ [])
     ++ (badDot dots ∷ badTable t dots table ∷ badStats t dots s ∷ []))
 
--- what a call was handed that neither 20 nor 21 refused
+-- the state that neither 20 nor 21 refuses
 pub record StateFits (t : Target) (dots : List ℕ) (table : List ℤ) (s : Stats) : Type 0 where
   pub table-is : table ≡ filteredErrors t dots
   pub error-is : s .error ≡ squaredError t dots
