@@ -40,7 +40,7 @@ drawn-none [] h = refl
 drawn-none (n when b ∷ l) h = rw (h .0) (drawn-none l (h .1))
 
 -- the first of two lists, by those of each
-pub first-append : (l k : List Refusal) → T (numbered l) → either (firstOf l) (firstOf k) ≡ firstOf (l ++ k)
+first-append : (l k : List Refusal) → T (numbered l) → either (firstOf l) (firstOf k) ≡ firstOf (l ++ k)
 first-append [] k t = refl
 first-append (zero when b ∷ l) k t = absurd t
 first-append (suc n when true ∷ l) k t = refl
@@ -86,13 +86,13 @@ size-inside w h e =
     let (wide, high) = neither (outside w) (outside h) e in
     (inside 256 w wide, inside 256 h high)
 
-pub none-above : (k : ℕ) (l : List ℕ) → above k l ≡ false → (i : ℕ) → getD l i 0 ≤ k
+none-above : (k : ℕ) (l : List ℕ) → above k l ≡ false → (i : ℕ) → getD l i 0 ≤ k
 unfolding above
 none-above k [] h i = omega arith
 none-above k (x ∷ l) h zero = ltb-false k x (neither (ltb k x) (above k l) h .0)
 none-above k (x ∷ l) h (suc i) = none-above k l (neither (ltb k x) (above k l) h .1) i
 
-pub above-none : (k : ℕ) (l : List ℕ) → AtMost k l → above k l ≡ false
+above-none : (k : ℕ) (l : List ℕ) → AtMost k l → above k l ≡ false
 unfolding above
 above-none k [] h = refl
 above-none k (x ∷ l) h = rw (le-ltb k x (h .each 0)) (above-none k l (record { each = λ i. h .each (suc i) }))
@@ -137,7 +137,7 @@ autocorrelation-fits r psf out e =
     let (p-is, (o-is, _)) = alike ((2 * r + 1) * (2 * r + 1)) cells (length psf) (out ∷ []) lent in
     (psf-by r psf radius p-is sum, o-is)
 
--- a plate whose dots may stand for others of the same number
+-- a plate by its conditions; the n dots that were judged may have given way to others, as many
 plate-by : (w h r : ℕ) (psf gray dots : List ℕ) (table : ℕ) {n : ℕ}
     → outside w || outside h ≡ false
     → ltb 3 r ≡ false

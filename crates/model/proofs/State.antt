@@ -28,7 +28,7 @@ use Rattle.model.proofs.Refusal.{None, neither, _nor_}
 rest : {k x : ℕ} {l : List ℕ} → AtMost k (x ∷ l) → AtMost k l
 rest h = record { each = λ i. h .each (suc i) }
 
-pub total≤ : (k : ℕ) (l : List ℕ) → AtMost k l → total l ≤ length l * k
+total≤ : (k : ℕ) (l : List ℕ) → AtMost k l → total l ≤ length l * k
 unfolding total
 total≤ k [] h = omega arith
 total≤ k (x ∷ l) h = omega (arith, h .each 0, total≤ k l (rest h))
