@@ -3,7 +3,7 @@
 ghost use mathlib.Core.Path.{_≡_};
 ghost use Rattle.model.specs.Calls.{filled, valued, autocorrelationCall, filteredErrorCall, squaredErrorCall};
 use judge::judge_autocorrelation;
-use judge::judge_plate;
+use judge::judge_halftone;
 use model::Filled;
 use model::SquaredError;
 
@@ -35,7 +35,7 @@ pub fn filtered_error(
     ensures { λ r. ⌜ now (table .exit) ≡ filteredErrorCall width height radius
         (now (psf .entry)) (now (gray .entry)) (now (dots .entry)) (now (table .entry)) .buffer ⌝ }
 {
-    let number = judge_plate(width, height, radius, psf, gray, dots, table.len());
+    let number = judge_halftone(width, height, radius, psf, gray, dots, table.len());
     if number != 0 {
         return Filled::Refused(number);
     }
@@ -55,7 +55,7 @@ pub fn squared_error(
     ensures { λ r. ⌜ valued r ≡ squaredErrorCall width height radius
         (now (psf .entry)) (now (gray .entry)) (now (dots .entry)) .reply ⌝ }
 {
-    let number = judge_plate(width, height, radius, psf, gray, dots, gray.len());
+    let number = judge_halftone(width, height, radius, psf, gray, dots, gray.len());
     if number != 0 {
         return SquaredError::Refused(number);
     }

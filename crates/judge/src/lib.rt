@@ -5,7 +5,7 @@ ghost use Prim.Native.Nat.{_≤_};
 ghost use lib.ListN.{length};
 ghost use Rattle.model.specs.Psf.{total};
 ghost use Rattle.model.specs.Refusal.{firstOf, either, above, badSize, badRadius, badReach, badKind, badLength, badSum};
-ghost use Rattle.model.specs.Refusal.{badDot, badGiven, handed, autocorrelationRefusal, plateRefusal, startRefusal};
+ghost use Rattle.model.specs.Refusal.{badDot, badGiven, handed, autocorrelationRefusal, halftoneRefusal, startRefusal};
 use model::Measures;
 
 // the sum of bytes, at most as many as the cells of the largest plate
@@ -155,7 +155,7 @@ pub fn judge_handed(measures: Measures, psf: &[u8], gray: usize, dots: usize, ta
 }
 
 // the whole list of the filtered error, handed a table of that length
-pub fn judge_plate(
+pub fn judge_halftone(
     width: usize,
     height: usize,
     radius: usize,
@@ -164,7 +164,7 @@ pub fn judge_plate(
     dots: &[u8],
     table: usize,
 ) -> u32
-    ensures { λ r. ⌜ r ≡ plateRefusal width height radius
+    ensures { λ r. ⌜ r ≡ halftoneRefusal width height radius
         (now (psf .entry)) (now (gray .entry)) (now (dots .entry)) (table ∷ []) ⌝ }
 {
     let measures = judge_measures(width, height, radius);

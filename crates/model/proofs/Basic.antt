@@ -1,5 +1,5 @@
--- Laws of the general definitions: a choice, a list by its entries, a list that a loop fills, and an entry of a square,
--- inside it and outside.
+-- Laws of the general definitions: a choice, a bounded list, a list by its entries, a list that a loop fills, and an
+-- entry of a square, inside it and outside.
 use mathlib.Core.Path.{_≡_, refl, sym, _∙_, ap, ap₂, subst}
 use mathlib.Core.Bool.{Bool, true, false}
 use mathlib.Core.Logic.{_⊎_, inl, inr}
@@ -17,7 +17,7 @@ use lib.Seq.{getD-at, getD-set-same, getD-set-other, ext-getD}
 use Rattle.algebra.proofs.Solver.{ring!, reify}
 use Rattle.algebra.proofs.Order.{show≤, show<, show≡, read<, read≡}
 use Rattle.algebra.proofs.Interval.{Supported2}
-use Rattle.model.specs.Basic.{pick, tabulate, gridAt, squareAt}
+use Rattle.model.specs.Basic.{pick, tabulate, AtMost, gridAt, squareAt}
 
 -- ---- a choice whose test is known
 pub pick-yes {ℓ} : {A : Type ℓ} (b : Bool) (x y : A) → T b → pick b x y ≡ x
@@ -27,6 +27,10 @@ pick-yes false x y t = absurd t
 pub pick-no {ℓ} : {A : Type ℓ} (b : Bool) (x y : A) → (T b → ⊥) → pick b x y ≡ y
 pick-no true x y t = absurd (t tt)
 pick-no false x y t = refl
+
+-- ---- a bounded list
+pub at-most-tail : {k x : ℕ} {l : List ℕ} → AtMost k (x ∷ l) → AtMost k l
+at-most-tail h = record { each = λ i. h .each (suc i) }
 
 -- ---- a tabulated list
 pub length-tabulate {ℓ} : {A : Type ℓ} (n : ℕ) (f : ℕ → A) → length (tabulate n f) ≡ n

@@ -5,7 +5,7 @@ pub mod Error
 pub mod Window
 pub mod Screen
 pub mod Refusal
-pub mod Plate
+pub mod Halftone
 pub mod State
 pub mod Start
 pub mod Calls

@@ -17,16 +17,16 @@ use Rattle.model.specs.Basic.{AtMost}
 use Rattle.model.specs.Psf.{total, autocorrelation}
 use Rattle.model.specs.Error.{Target, targetOf, targetFor, cells, kernel, error}
 use Rattle.model.specs.Error.{filteredError, filteredErrors, squaredError, perceivedSquares}
-use Rattle.model.specs.Refusal.{firstOf, plateRefusal, startRefusal, PlateFits}
+use Rattle.model.specs.Refusal.{firstOf, halftoneRefusal, startRefusal, HalftoneFits}
 use Rattle.model.specs.State.{freshStats, badTable, badStats, laterRefusal, StateFits}
 use Rattle.model.specs.Screen.{startDots}
-use Rattle.model.specs.Calls.{result, Lent, withTable, startCall}
+use Rattle.model.specs.Calls.{result, Buffers, withTable, startCall}
 use Rattle.model.specs.Examples.{Examples}
 use Rattle.model.proofs.Psf.{autocorrelation-even, autocorrelation-supported}
 use Rattle.model.proofs.Psf.{autocorrelation-nonneg, autocorrelation-total}
 use Rattle.model.proofs.Error.{filtered-edit, squared-edit, squared-perceived}
-use Rattle.model.proofs.Refusal.{none, drawn-none, plate-again, plate-fits, start-fits}
-use Rattle.model.proofs.Plate.{filtered-most, squared-least, squared-most}
+use Rattle.model.proofs.Refusal.{none, drawn-none, halftone-again, halftone-fits, start-fits}
+use Rattle.model.proofs.Halftone.{filtered-most, squared-least, squared-most}
 use Rattle.model.proofs.Calls.{was-done}
 use Rattle.model.proofs.State.{dots-counted, state-accepted, state-known}
 use Rattle.model.proofs.Start.{start-state, start-accepted}
@@ -65,13 +65,13 @@ module _ (w h r : ℕ) (psf gray dots : List ℕ) (bytes : AtMost 255 gray) wher
   target = targetOf w h r psf gray
 
   -- |T| is at most 267,386,880
-  pub table-is-bounded : (table m : ℕ) → plateRefusal w h r psf gray dots (table ∷ []) ≡ 0
+  pub table-is-bounded : (table m : ℕ) → halftoneRefusal w h r psf gray dots (table ∷ []) ≡ 0
       → natAbs (filteredError target dots m) ≤ 267386880
-  table-is-bounded table m e = filtered-most w h r psf gray dots (plate-fits w h r psf gray dots table e) bytes m
+  table-is-bounded table m e = filtered-most w h r psf gray dots (halftone-fits w h r psf gray dots table e) bytes m
 
-  module _ (taken : plateRefusal w h r psf gray dots [] ≡ 0) where
-    fits : PlateFits w h r psf gray dots (length gray)
-    fits = plate-fits w h r psf gray dots (length gray) (plate-again w h r psf gray dots ∙ taken)
+  module _ (taken : halftoneRefusal w h r psf gray dots [] ≡ 0) where
+    fits : HalftoneFits w h r psf gray dots (length gray)
+    fits = halftone-fits w h r psf gray dots (length gray) (halftone-again w h r psf gray dots ∙ taken)
 
     -- E equals the sum, over the cells of the plate widened by r on each side, of the squares of the spread-out error
     pub squared-error-is-perceived : squaredError target dots ≡ perceivedSquares target dots
@@ -87,7 +87,7 @@ module _ (w h r : ℕ) (psf gray dots : List ℕ) (bytes : AtMost 255 gray) wher
 
 -- ---- starts: what a start that is not refused answers and leaves
 module _ (m : Measures) (psf gray : List ℕ) where
-  pub record Begun (left : Lent) (s : Stats) : Type 0 where
+  pub record Begun (left : Buffers) (s : Stats) : Type 0 where
     -- E at the start and E now are the sum, over the dots left
     pub start-error-is-sum : s .«start_error» ≡ squaredError (targetFor m psf gray) (left .dots)
     pub error-is-sum : s .error ≡ squaredError (targetFor m psf gray) (left .dots)

@@ -1,5 +1,5 @@
 -- The laws of the refusals: how the judge of a list is made of judges of its parts, and what a call that draws no
--- refusal was handed (`plate-fits`, `autocorrelation-fits`, `start-fits`).
+-- refusal was handed (`halftone-fits`, `autocorrelation-fits`, `start-fits`).
 use mathlib.Core.Bool.{Bool, true, false, true≢false, not, _||_, _&&_}
 use mathlib.Core.List.{List, [], _∷_, _++_}
 use mathlib.Core.Path.{_≡_, refl, sym, _∙_, ap, ap₂}
@@ -14,7 +14,8 @@ use Rattle.model.specs.Psf.{total}
 use Rattle.model.specs.Screen.{startDots}
 use Rattle.model.specs.Refusal.{Refusal, _when_, firstOf, either, outside, differs, above}
 use Rattle.model.specs.Refusal.{badSize, badRadius, badLength, badSum, badDot, badGiven, handed}
-use Rattle.model.specs.Refusal.{autocorrelationRefusal, plateRefusal, startRefusal, PsfFits, PlateFits}
+use Rattle.model.specs.Refusal.{autocorrelationRefusal, halftoneRefusal, startRefusal, PsfFits, HalftoneFits}
+use Rattle.model.proofs.Basic.{at-most-tail}
 use Rattle.model.proofs.Screen.{start-long, start-bits}
 
 -- ---- the first of a list
@@ -95,7 +96,7 @@ none-above k (x ∷ l) h (suc i) = none-above k l (neither (ltb k x) (above k l)
 above-none : (k : ℕ) (l : List ℕ) → AtMost k l → above k l ≡ false
 unfolding above
 above-none k [] h = refl
-above-none k (x ∷ l) h = rw (le-ltb k x (h .each 0)) (above-none k l (record { each = λ i. h .each (suc i) }))
+above-none k (x ∷ l) h = rw (le-ltb k x (h .each 0)) (above-none k l (at-most-tail h))
 
 -- every length of the list is n
 abbrev Alike : ℕ → List ℕ → Type 0
@@ -114,10 +115,10 @@ again true b c = refl
 again false b c = refl
 
 -- the squared error, which is lent no table, is judged as if the gray slice were its table
-pub plate-again : (w h r : ℕ) (psf gray dots : List ℕ)
-    → plateRefusal w h r psf gray dots (length gray ∷ []) ≡ plateRefusal w h r psf gray dots []
-unfolding plateRefusal
-plate-again w h r psf gray dots = simp again
+pub halftone-again : (w h r : ℕ) (psf gray dots : List ℕ)
+    → halftoneRefusal w h r psf gray dots (length gray ∷ []) ≡ halftoneRefusal w h r psf gray dots []
+unfolding halftoneRefusal
+halftone-again w h r psf gray dots = simp again
 
 -- ---- what a call was handed that draws no refusal
 psf-by : (r : ℕ) (psf : List ℕ) → ltb 3 r ≡ false → length psf ≡ (2 * r + 1) * (2 * r + 1)
@@ -138,15 +139,15 @@ autocorrelation-fits r psf out e =
     (psf-by r psf radius p-is sum, o-is)
 
 -- a plate by its conditions; the n dots that were judged may have given way to others, as many
-plate-by : (w h r : ℕ) (psf gray dots : List ℕ) (table : ℕ) {n : ℕ}
+halftone-by : (w h r : ℕ) (psf gray dots : List ℕ) (table : ℕ) {n : ℕ}
     → outside w || outside h ≡ false
     → ltb 3 r ≡ false
     → not (eqb (length psf) ((2 * r + 1) * (2 * r + 1))) || differs (h * w) (length gray ∷ n ∷ table ∷ []) ≡ false
     → eqb (total psf) 0 || ltb 1024 (total psf) ≡ false
     → (n ≡ h * w → length dots ≡ h * w)
     → AtMost 1 dots
-    → PlateFits w h r psf gray dots table
-plate-by w h r psf gray dots table {n} size radius lent sum long bits =
+    → HalftoneFits w h r psf gray dots table
+halftone-by w h r psf gray dots table {n} size radius lent sum long bits =
     let (w-inside, h-inside) = size-inside w h size in
     let lengths : List ℕ = length gray ∷ n ∷ table ∷ [] in
     let (p-is, (g-is, (d-is, (t-is, _)))) = alike ((2 * r + 1) * (2 * r + 1)) (h * w) (length psf) lengths lent in
@@ -161,25 +162,25 @@ plate-by w h r psf gray dots table {n} size radius lent sum long bits =
     }
 
 -- the filtered error, handed a table of that length
-pub plate-fits : (w h r : ℕ) (psf gray dots : List ℕ) (table : ℕ)
-    → plateRefusal w h r psf gray dots (table ∷ []) ≡ 0
-    → PlateFits w h r psf gray dots table
-unfolding plateRefusal
-plate-fits w h r psf gray dots table e =
+pub halftone-fits : (w h r : ℕ) (psf gray dots : List ℕ) (table : ℕ)
+    → halftoneRefusal w h r psf gray dots (table ∷ []) ≡ 0
+    → HalftoneFits w h r psf gray dots table
+unfolding halftoneRefusal
+halftone-fits w h r psf gray dots table e =
     let lengths : List ℕ = length gray ∷ length dots ∷ table ∷ [] in
     let slices : List Refusal = badLength r psf (h * w) lengths ∷ badSum psf ∷ badDot dots ∷ [] in
     let (size, (radius, (lent, (sum, (dot, _))))) = none (badSize w h ∷ badRadius r ∷ slices) tt refl e in
-    plate-by w h r psf gray dots table size radius lent sum (λ e. e) (record { each = none-above 1 dots dot })
+    halftone-by w h r psf gray dots table size radius lent sum (λ e. e) (record { each = none-above 1 dots dot })
 
 -- a plate that fits draws none of 1, 2, 5, 6 and 7
-pub plate-none : (w h r : ℕ) (psf gray dots : List ℕ) (table : ℕ) → PlateFits w h r psf gray dots table
+pub halftone-none : (w h r : ℕ) (psf gray dots : List ℕ) (table : ℕ) → HalftoneFits w h r psf gray dots table
     → None (badSize w h
     ∷ badRadius r
     ∷ badLength r psf (h * w) (length gray ∷ length dots ∷ table ∷ [])
     ∷ badSum psf
     ∷ badDot dots
     ∷ [])
-plate-none w h r psf gray dots table f = (
+halftone-none w h r psf gray dots table f = (
   within 256 w (f .wide) nor within 256 h (f .high),
   (
     le-ltb 3 r (f .psf-fits .near),
@@ -215,10 +216,10 @@ module _ (m : Measures) (psf gray dots : List ℕ) (table : ℕ) (taken : startR
       let side : ℕ = 2 * m .radius + 1 in
       alike (side * side) (m .height * m .width) (length psf) lengths lent .1 .1 .0
 
-  pub start-fits : PlateFits (m .width) (m .height) (m .radius) psf gray (startDots m gray dots) table
+  pub start-fits : HalftoneFits (m .width) (m .height) (m .radius) psf gray (startDots m gray dots) table
   start-fits =
       let (size, (radius, (reach, (kind, (lent, (sum, (dot, _))))))) = drawn in
-      plate-by (m .width) (m .height) (m .radius) psf gray (startDots m gray dots) table size radius lent sum
+      halftone-by (m .width) (m .height) (m .radius) psf gray (startDots m gray dots) table size radius lent sum
       (start-long m gray dots) (start-bits m gray dots (λ k. given (m .start) (ltb-false 2 (m .start) kind) k dot))
     where
       given : (k : ℕ) → k ≤ 2 → 2 ≤ k → eqb k 2 && above 1 dots ≡ false → AtMost 1 dots

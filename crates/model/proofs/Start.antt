@@ -10,13 +10,13 @@ use Rattle.model.specs.declared.Stats.{Stats}
 use Rattle.model.specs.Basic.{AtMost}
 use Rattle.model.specs.Error.{Target, targetFor, filteredErrors}
 use Rattle.model.specs.Screen.{startDots}
-use Rattle.model.specs.Refusal.{Refusal, handed, badDot, badGiven, startRefusal, PlateFits}
+use Rattle.model.specs.Refusal.{Refusal, handed, badDot, badGiven, startRefusal, HalftoneFits}
 use Rattle.model.specs.State.{freshStats, badTable, badStats, laterRefusal, StateFits}
-use Rattle.model.specs.Calls.{result, refused, Lent, startCall}
+use Rattle.model.specs.Calls.{result, refused, Buffers, startCall}
 use Rattle.model.proofs.Error.{filtered-long}
 use Rattle.model.proofs.Calls.{is-refused, is-done}
-use Rattle.model.proofs.Refusal.{drawn-none, none, plate-none, start-fits}
-use Rattle.model.proofs.Plate.{squared-least, squared-most}
+use Rattle.model.proofs.Refusal.{drawn-none, none, halftone-none, start-fits}
+use Rattle.model.proofs.Halftone.{squared-least, squared-most}
 use Rattle.model.proofs.State.{state-accepted, fresh-fits}
 
 -- ---- the answer and the buffers
@@ -27,9 +27,9 @@ module _ (m : Measures) (psf gray dots : List ℕ) (table : List ℤ) where
       × (table ≡ startCall m psf gray dots table .buffer .table))
   unfolding startCall
   start-refused e h =
-      let lent : Lent = record { dots = dots; table = table } in
-      let (reply, buffer) = is-refused lent _ (startRefusal m psf gray dots (length table)) e h in
-      (reply, (ap (λ l. l .dots) buffer, ap (λ l. l .table) buffer))
+      let buffers : Buffers = record { dots = dots; table = table } in
+      let (reply, left) = is-refused buffers _ (startRefusal m psf gray dots (length table)) e h in
+      (reply, (ap (λ b. b .dots) left, ap (λ b. b .table) left))
 
   -- where the dots are those of the kind, and the table and the ledger are fresh
   pub start-done : startRefusal m psf gray dots (length table) ≡ 0 → {d : List ℕ} {t : List ℤ} {s : Stats}
@@ -41,11 +41,11 @@ module _ (m : Measures) (psf gray dots : List ℕ) (table : List ℤ) where
       × (t ≡ startCall m psf gray dots table .buffer .table))
   unfolding startCall
   start-done taken e f g =
-      let lent : Lent = record { dots = dots; table = table } in
-      let (reply, buffer) = is-done lent _ (startRefusal m psf gray dots (length table)) taken refl in
+      let buffers : Buffers = record { dots = dots; table = table } in
+      let (reply, left) = is-done buffers _ (startRefusal m psf gray dots (length table)) taken refl in
       let table = f ∙ ap (filteredErrors (targetFor m psf gray)) e in
       let stats = g ∙ ap (freshStats (targetFor m psf gray)) e in
-      (ap result stats ∙ reply, (e ∙ ap (λ l. l .dots) buffer, table ∙ ap (λ l. l .table) buffer))
+      (ap result stats ∙ reply, (e ∙ ap (λ b. b .dots) left, table ∙ ap (λ b. b .table) left))
 
 -- ---- what is left
 module _ (m : Measures) (psf gray dots : List ℕ) (table : ℕ) (bytes : AtMost 255 gray)
@@ -57,7 +57,7 @@ module _ (m : Measures) (psf gray dots : List ℕ) (table : ℕ) (bytes : AtMost
   begun = startDots m gray dots
 
   abbrev Fits : ℕ → Type 0
-  Fits = PlateFits (m .width) (m .height) (m .radius) psf gray begun
+  Fits = HalftoneFits (m .width) (m .height) (m .radius) psf gray begun
 
   fits : Fits table
   fits = start-fits m psf gray dots table taken
@@ -77,7 +77,7 @@ module _ (m : Measures) (psf gray dots : List ℕ) (table : ℕ) (bytes : AtMost
       let T : List ℤ = filteredErrors t begun in
       let left = subst Fits (fits .table-length ∙ sym (filtered-long t begun)) fits in
       let (size, (radius, (lent, (sum, (dot, _)))))
-      = plate-none (m .width) (m .height) (m .radius) psf gray begun (length T) left in
+      = halftone-none (m .width) (m .height) (m .radius) psf gray begun (length T) left in
       drawn-none
       (handed m psf (length gray ∷ length begun ∷ length T ∷ [])
       ++ (badDot begun ∷ badTable t begun T ∷ badStats t begun (freshStats t begun) ∷ []))

@@ -21,17 +21,14 @@ use Rattle.model.specs.Psf.{total}
 use Rattle.model.specs.Error.{Target, cells, filteredError, filteredErrors, squaredError, mostSquared}
 use Rattle.model.specs.State.{dotTotal, unequal, someBelow, some, faults, freshStats}
 use Rattle.model.specs.State.{badTable, badStats, StateFits}
-use Rattle.model.proofs.Basic.{getD-tabulate, tabulate-by}
+use Rattle.model.proofs.Basic.{at-most-tail, getD-tabulate, tabulate-by}
 use Rattle.model.proofs.Refusal.{None, neither, _nor_}
 
 -- ---- the dot total
-rest : {k x : ℕ} {l : List ℕ} → AtMost k (x ∷ l) → AtMost k l
-rest h = record { each = λ i. h .each (suc i) }
-
 total≤ : (k : ℕ) (l : List ℕ) → AtMost k l → total l ≤ length l * k
 unfolding total
 total≤ k [] h = omega arith
-total≤ k (x ∷ l) h = omega (arith, h .each 0, total≤ k l (rest h))
+total≤ k (x ∷ l) h = omega (arith, h .each 0, total≤ k l (at-most-tail h))
 
 -- the dot bytes that are 1
 abbrev dotsOf : List ℕ → List ℕ
@@ -40,7 +37,7 @@ dotsOf = filter (λ d. ℕ-discrete d 1)
 pub dots-counted : (dots : List ℕ) → AtMost 1 dots → dotTotal dots ≡ length (dotsOf dots)
 unfolding total
 dots-counted [] h = refl
-dots-counted (d ∷ dots) h = go (ℕ-discrete d 1) (dots-counted dots (rest h))
+dots-counted (d ∷ dots) h = go (ℕ-discrete d 1) (dots-counted dots (at-most-tail h))
   where
     go : (x : Dec (d ≡ 1)) → dotTotal dots ≡ length (dotsOf dots)
         → d + total dots ≡ length (ite x (d ∷ dotsOf dots) (dotsOf dots))

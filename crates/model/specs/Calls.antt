@@ -13,7 +13,7 @@ use Rattle.model.specs.declared.Started.{Started}
 use Rattle.model.specs.declared.Started.the-variants as Started
 use Rattle.model.specs.Psf.{autocorrelations}
 use Rattle.model.specs.Error.{Target, targetOf, targetFor, filteredErrors, squaredError}
-use Rattle.model.specs.Refusal.{autocorrelationRefusal, plateRefusal, startRefusal}
+use Rattle.model.specs.Refusal.{autocorrelationRefusal, halftoneRefusal, startRefusal}
 use Rattle.model.specs.Screen.{startDots}
 use Rattle.model.specs.State.{freshStats}
 
@@ -53,25 +53,25 @@ autocorrelationCall radius psf out =
 module _ (width height radius : ℕ) (psf gray dots : List ℕ) where
   unfoldable pub filteredErrorCall : (table : List ℤ) → Outcome (Unit {0}) (List ℤ)
   filteredErrorCall table =
-      unless (plateRefusal width height radius psf gray dots (length table ∷ [])) table
+      unless (halftoneRefusal width height radius psf gray dots (length table ∷ [])) table
       (record { reply = result tt; buffer = filteredErrors (targetOf width height radius psf gray) dots })
 
   -- it is lent no buffer
   unfoldable pub squaredErrorCall : Outcome ℤ (Unit {0})
   squaredErrorCall =
-      unless (plateRefusal width height radius psf gray dots []) tt
+      unless (halftoneRefusal width height radius psf gray dots []) tt
       (record { reply = result (squaredError (targetOf width height radius psf gray) dots); buffer = tt })
 
--- the dots and the table, as a start and the later calls are lent them and leave them
-pub record Lent : Type 0 where
+-- the buffers (01: lent slices) of a start and of the later calls, as they are handed in and left: dots and table
+pub record Buffers : Type 0 where
   pub dots : List ℕ
   pub table : List ℤ
 
 -- dots with their table
-abbrev pub withTable : Target → List ℕ → Lent
+abbrev pub withTable : Target → List ℕ → Buffers
 withTable t dots = record { dots = dots; table = filteredErrors t dots }
 
-unfoldable pub startCall : Measures → (psf gray dots : List ℕ) (table : List ℤ) → Outcome Stats Lent
+unfoldable pub startCall : Measures → (psf gray dots : List ℕ) (table : List ℤ) → Outcome Stats Buffers
 startCall m psf gray dots table =
     let t = targetFor m psf gray in
     let begun = startDots m gray dots in

@@ -81,8 +81,8 @@ autocorrelationRefusal radius psf out =
     firstOf (badRadius radius ∷ badLength radius psf ((4 * radius + 1) * (4 * radius + 1)) (out ∷ []) ∷ badSum psf ∷ [])
 
 -- the squared error and, with the length of the table lent, the filtered error
-unfoldable pub plateRefusal : ℕ → ℕ → ℕ → List ℕ → List ℕ → List ℕ → List ℕ → ℕ
-plateRefusal width height radius psf gray dots others =
+unfoldable pub halftoneRefusal : ℕ → ℕ → ℕ → List ℕ → List ℕ → List ℕ → List ℕ → ℕ
+halftoneRefusal width height radius psf gray dots others =
     firstOf
     (badSize width height
     ∷ badRadius radius
@@ -114,7 +114,8 @@ pub record PsfFits (r : ℕ) (psf : List ℕ) : Type 0 where
   pub sum-low : 1 ≤ total psf
   pub sum-high : total psf ≤ 1024
 
-pub record PlateFits (w h r : ℕ) (psf gray dots : List ℕ) (table : ℕ) : Type 0 where
+-- a halftone (01: plate) with its gray and its psf, and a table of that length
+pub record HalftoneFits (w h r : ℕ) (psf gray dots : List ℕ) (table : ℕ) : Type 0 where
   pub wide : (1 ≤ w) × (w ≤ 256)
   pub high : (1 ≤ h) × (h ≤ 256)
   pub psf-fits : PsfFits r psf

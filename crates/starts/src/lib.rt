@@ -3,7 +3,7 @@
 ghost use mathlib.Core.Path.{_≡_};
 ghost use lib.ListN.{length};
 ghost use Rattle.model.specs.Error.{targetOf, filteredErrors};
-ghost use Rattle.model.specs.Refusal.{PlateFits};
+ghost use Rattle.model.specs.Refusal.{HalftoneFits};
 ghost use Rattle.model.specs.State.{freshStats};
 ghost use Rattle.model.specs.Calls.{started, startCall};
 use judge::judge_start;
@@ -24,7 +24,7 @@ fn begin(
     dots: &[u8],
     table: &mut [i32],
 ) -> Stats
-    requires { ⌜ PlateFits width height radius (now psf) (now gray) (now dots) (length (now table)) ⌝ }
+    requires { ⌜ HalftoneFits width height radius (now psf) (now gray) (now dots) (length (now table)) ⌝ }
     ensures { λ _. ⌜ now (table .exit) ≡ filteredErrors
         (targetOf width height radius (now (psf .entry)) (now (gray .entry))) (now (dots .entry)) ⌝ }
     ensures { λ r. ⌜ r ≡ freshStats

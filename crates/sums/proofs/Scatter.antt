@@ -15,11 +15,11 @@ use Rattle.algebra.proofs.SumOrder.{natAbs-sum}
 use Rattle.model.specs.Basic.{tabulate, AtMost}
 use Rattle.model.specs.Psf.{total, autocorrelations}
 use Rattle.model.specs.Error.{Target, targetOf, errorOf, kernel, error, filteredError, filteredErrors, squaredError}
-use Rattle.model.specs.Refusal.{PsfFits, PlateFits}
+use Rattle.model.specs.Refusal.{PsfFits, HalftoneFits}
 use Rattle.model.specs.Window.{addWindow, scattered, Small, mostFiltered}
 use Rattle.model.proofs.Basic.{length-tabulate, getD-tabulate, tabulate-cong}
 use Rattle.model.proofs.Psf.{autocorrelation-nonneg, autocorrelation≤}
-use Rattle.model.proofs.Plate.{filtered-part-most, filtered-most}
+use Rattle.model.proofs.Halftone.{filtered-part-most, filtered-most}
 use Rattle.model.proofs.Window.{small-tabulate, square-small, scattered-next, windows-filtered, windows-autocorrelation}
 use Rattle.sums.specs.Scatter.{mirroredAt, mirrored, laidAt, laid, Steady}
 
@@ -78,7 +78,7 @@ module _ (w h r : ℕ) (psf gray dots : List ℕ) where
       ∙ sum-cong (h * w) (λ m l.
       ap (λ z. errorOf 255 gray dots m *ℤ z) (getD-tabulate (h * w) (filteredError target dots) m (pos 0) l))
 
-  module _ {table : ℕ} (f : PlateFits w h r psf gray dots table) (bytes : AtMost 255 gray) where
+  module _ {table : ℕ} (f : HalftoneFits w h r psf gray dots table) (bytes : AtMost 255 gray) where
     pub laid-steady : Steady w h r (autocorrelations r psf) gray dots
     laid-steady =
         record { each = λ n q l. rw (laid-part n q) (filtered-part-most w h r psf gray dots f bytes n q l) }

@@ -9,7 +9,7 @@ ghost use Rattle.algebra.specs.Sum.{sumTo};
 ghost use Rattle.model.specs.Basic.{tabulate, AtMost};
 ghost use Rattle.model.specs.Psf.{autocorrelations};
 ghost use Rattle.model.specs.Error.{errorOf, targetOf, filteredErrors, squaredError};
-ghost use Rattle.model.specs.Refusal.{PsfFits, PlateFits};
+ghost use Rattle.model.specs.Refusal.{PsfFits, HalftoneFits};
 ghost use Rattle.model.specs.Window.{Small, mostFiltered};
 ghost use Rattle.sums.specs.Scatter.{mirrored, laid, Steady};
 use window::add_window;
@@ -131,7 +131,7 @@ pub fn filter(
     dots: &[u8],
     table: &mut [i32],
 )
-    requires { ⌜ PlateFits width height radius (now psf) (now gray) (now dots) (length (now table)) ⌝ }
+    requires { ⌜ HalftoneFits width height radius (now psf) (now gray) (now dots) (length (now table)) ⌝ }
     ensures { λ _. ⌜ now (table .exit) ≡ filteredErrors
         (targetOf width height radius (now (psf .entry)) (now (gray .entry))) (now (dots .entry)) ⌝ }
 {
@@ -152,7 +152,7 @@ pub fn filter_and_square(
     dots: &[u8],
     table: &mut [i32],
 ) -> i64
-    requires { ⌜ PlateFits width height radius (now psf) (now gray) (now dots) (length (now table)) ⌝ }
+    requires { ⌜ HalftoneFits width height radius (now psf) (now gray) (now dots) (length (now table)) ⌝ }
     ensures { λ _. ⌜ now (table .exit) ≡ filteredErrors
         (targetOf width height radius (now (psf .entry)) (now (gray .entry))) (now (dots .entry)) ⌝ }
     ensures { λ r. ⌜ r ≡ squaredError
@@ -172,7 +172,7 @@ pub fn square(
     dots: &[u8],
     scratch: &mut [i32],
 ) -> i64
-    requires { ⌜ PlateFits width height radius (now psf) (now gray) (now dots) (length (now gray)) ⌝ }
+    requires { ⌜ HalftoneFits width height radius (now psf) (now gray) (now dots) (length (now gray)) ⌝ }
     requires { ⌜ 65536 ≤ length (now scratch) ⌝ }
     ensures { λ r. ⌜ r ≡ squaredError
         (targetOf width height radius (now (psf .entry)) (now (gray .entry))) (now (dots .entry)) ⌝ }

@@ -4,7 +4,7 @@ use mathlib.Core.Path.{_≡_, sym, _∙_, subst}
 use Prim.Native.Nat.{ℕ}
 use borrow.Author.Needs.{needs}
 use lib.ListN.{length}
-use Rattle.model.specs.Refusal.{PlateFits, startRefusal}
+use Rattle.model.specs.Refusal.{HalftoneFits, startRefusal}
 use Rattle.model.specs.Screen.{startDots}
 use Rattle.model.proofs.Refusal.{start-given, start-fits}
 use Rattle.model.proofs.Start.{start-refused, start-done}
@@ -31,7 +31,7 @@ module _ (c : tie.Else1) where
 
   abbrev Fits : List ℕ → Type 0
   Fits dots =
-      PlateFits (s .args .measures .width) (s .args .measures .height) (s .args .measures .radius)
+      HalftoneFits (s .args .measures .width) (s .args .measures .height) (s .args .measures .radius)
       (s .args .psf .now) (s .args .gray .now) dots (length (s .args .table .now))
 
   fits : Fits (startDots (s .args .measures) (s .args .gray .now) (s .args .dots .now))

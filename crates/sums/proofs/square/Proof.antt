@@ -4,8 +4,8 @@ use Prim.Native.Nat.{_≤_}
 use native.Mathlib.Omega.{arith}
 use mathlib.Core.Path.{subst}
 use lib.ListN.{length}
-use Rattle.model.specs.Refusal.{PlateFits}
-use Rattle.model.proofs.Plate.{few-cells}
+use Rattle.model.specs.Refusal.{HalftoneFits}
+use Rattle.model.proofs.Halftone.{few-cells}
 use Rattle.sums.proofs.Scatter.{part-whole}
 use Rattle.sums.proofs.square.Statement.{statement}
 use Rattle.sums.proofs.square.Tie as tie
@@ -24,7 +24,7 @@ filter-and-square-requires : tie.Need-filter-and-square-requires
 filter-and-square-requires c κs =
     let s = c .before .before .before .before in
     let a = s .args in
-    subst (PlateFits (a .width) (a .height) (a .radius) (a .psf .now) (a .gray .now) (a .dots .now))
+    subst (HalftoneFits (a .width) (a .height) (a .radius) (a .psf .now) (a .gray .now) (a .dots .now))
     (part-whole _ _ (held s)) (s .pre .0)
 
 same-length : tie.Need-same-length

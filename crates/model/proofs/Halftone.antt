@@ -1,5 +1,5 @@
--- What holds of every plate that is not refused, its gray being made of bytes: how many cells it has, and the size
--- of its errors, of T and of E.
+-- What holds of every halftone (01: plate) that is not refused, its gray being made of bytes: how many cells it has,
+-- and the size of its errors, of T and of E.
 use mathlib.Core.List.{List}
 use Prim.Native.Nat.{ℕ, _*_, _≤_}
 use native.Mathlib.Nat.{le-trans, mul-le-mul, mul-le-mul-right}
@@ -10,16 +10,17 @@ use Rattle.algebra.specs.Sum.{sumTo}
 use Rattle.algebra.proofs.Order.{natAbs-above}
 use Rattle.model.specs.Basic.{AtMost}
 use Rattle.model.specs.Error.{Target, targetOf, kernel, error, filteredError, squaredError, mostSquared}
-use Rattle.model.specs.Refusal.{PlateFits}
+use Rattle.model.specs.Refusal.{HalftoneFits}
 use Rattle.model.specs.Window.{mostFiltered}
 use Rattle.model.proofs.Error.{filtered-part≤, filtered≤, squared≤, squared-nonneg, error≤}
 
 -- its cells are at most 65,536
-pub few-cells : {w h r : ℕ} {psf gray dots : List ℕ} {table : ℕ} → PlateFits w h r psf gray dots table → h * w ≤ 65536
+pub few-cells : {w h r : ℕ} {psf gray dots : List ℕ} {table : ℕ} → HalftoneFits w h r psf gray dots table
+    → h * w ≤ 65536
 few-cells f = mul-le-mul {n₂ = 256} {m₂ = 256} (f .high .1) (f .wide .1)
 
 module _ (w h r : ℕ) (psf gray dots : List ℕ) {table : ℕ}
-    (f : PlateFits w h r psf gray dots table) (bytes : AtMost 255 gray) where
+    (f : HalftoneFits w h r psf gray dots table) (bytes : AtMost 255 gray) where
   abbrev target : Target
   target = targetOf w h r psf gray
 

@@ -1,14 +1,14 @@
--- `judge::judge_plate` meets its contract: the list of refusals is in three parts, each with a judge of its own, and
+-- `judge::judge_halftone` meets its contract: the list of refusals is in three parts, each with a judge of its own, and
 -- the first number that a judge finds is the first of the whole list.
 use mathlib.Core.List.{List, [], _∷_, _++_}
 use Prim.Native.Nat.{_*_}
 use borrow.Author.Needs.{needs}
 use lib.ListN.{length}
-use Rattle.model.specs.Refusal.{Refusal, badSize, badRadius, badLength, badSum, badDot, plateRefusal}
+use Rattle.model.specs.Refusal.{Refusal, badSize, badRadius, badLength, badSum, badDot, halftoneRefusal}
 use Rattle.model.proofs.Refusal.{by-first, by-either, by-second}
 use Rattle.judge.proofs.Laws.{sized}
-use Rattle.judge.proofs.judge_plate.Statement.{statement}
-use Rattle.judge.proofs.judge_plate.Tie as tie
+use Rattle.judge.proofs.judge_halftone.Statement.{statement}
+use Rattle.judge.proofs.judge_halftone.Tie as tie
 
 module _ (s : tie.Start) where
   abbrev measures : List Refusal
@@ -28,7 +28,7 @@ judge-measures-requires : tie.Need-judge-measures-requires
 judge-measures-requires c κs = search needs
 
 returns : tie.Need-returns
-unfolding plateRefusal
+unfolding halftoneRefusal
 returns c =
     let s = c .before .before .before .before .before in
     by-first (measures s) (slices s ++ bytes s) tt (c .before .judge-measures .ensures) (c .if1 .taken)
@@ -50,7 +50,7 @@ first-requires : tie.Need-first-requires
 first-requires c κs = search needs
 
 returns-2 : tie.Need-returns-2
-unfolding plateRefusal
+unfolding halftoneRefusal
 returns-2 c =
     let left = c .before .before .before in
     let s = left .before .before .before .before .before in
@@ -58,8 +58,8 @@ returns-2 c =
     (by-either (slices s) (bytes s) tt (c .before .before .judge-slices .ensures) (c .before .judge-dots .ensures)
     (c .first .ensures))
 
-pub judge-plate-spec : {M : Type 1} → statement M
-judge-plate-spec =
+pub judge-halftone-spec : {M : Type 1} → statement M
+judge-halftone-spec =
     tie.close
     (tie.spec
     judge-measures-requires
