@@ -140,6 +140,9 @@ module _ (ρ : List ℤ) {a b : ℤ} (r : Is ρ a × Is ρ b) where
   pub read< : a <ℤ b → up (r .0) + dn (r .1) < up (r .1) + dn (r .0)
   read< h = omega (arith, <ℤ→ h, pn (r .0), pn (r .1))
 
+  pub read≤ : a ≤ℤ b → up (r .0) + dn (r .1) ≤ up (r .1) + dn (r .0)
+  read≤ h = omega (arith, ≤ℤ→ h, pn (r .0), pn (r .1))
+
   pub show≤ : up (r .0) + dn (r .1) ≤ up (r .1) + dn (r .0) → a ≤ℤ b
   show≤ h = →≤ℤ (omega (arith, pn (r .0), pn (r .1)))
 

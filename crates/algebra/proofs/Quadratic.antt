@@ -1,10 +1,10 @@
 -- The law of an edit (document 004, equations 13 and 21): what a list of cells, each with the amount it gains, adds to
--- the transform and to the quadratic form of a symmetric kernel, with the cases of one cell and of two. Then a sum of
--- squares of linear forms as a quadratic form.
+-- the transform and to the quadratic form of a symmetric kernel. Then a sum of squares of linear forms as a quadratic
+-- form.
 use mathlib.Core.Path.{_≡_, refl, sym, _∙_, ap, ap₂}
 use mathlib.Core.List.{List, [], _∷_}
 use Prim.Native.Nat.{ℕ, _<_}
-use lib.IntN.{ℤ, pos, _+ℤ_, _*ℤ_, +ℤ-idr, zero-*ℤ, *ℤ-comm}
+use lib.IntN.{ℤ, pos, _+ℤ_, _*ℤ_, zero-*ℤ, *ℤ-comm}
 use Rattle.algebra.proofs.Ring.{*ℤ-assoc, *ℤ-distr, *ℤ-distl}
 use Rattle.algebra.proofs.Solver.{ring!, reify}
 use Rattle.algebra.specs.Sum.{sumTo, sumOver}
@@ -100,25 +100,6 @@ module _ (C : ℕ → ℕ → ℤ) (N : ℕ) where
             ap (λ z. c .amount *ℤ z) (transform-gained l (c .cell) w)
             ∙ sym (sumOver-scale l (c .amount) (λ d. d .amount *ℤ C (d .cell) (c .cell)))
             ∙ sumOver-cong l (λ d. sym (*ℤ-assoc (c .amount) (d .amount) (C (d .cell) (c .cell))))
-
-    -- one cell
-    pub quadratic-edit-one : (x : ℕ → ℤ) (m : ℕ) (a : ℤ) → m < N
-        → quadratic C N (edited x (record { cell = m; amount = a } ∷ []))
-        ≡ quadratic C N x +ℤ pos 2 *ℤ (a *ℤ transform C N x m) +ℤ a *ℤ a *ℤ C m m
-    unfolding sumOver
-    quadratic-edit-one x m a h = quadratic-edit x (record { cell = m; amount = a } ∷ []) (h, tt) ∙ simp +ℤ-idr
-
-    -- two cells
-    pub quadratic-edit-two : (x : ℕ → ℤ) (m n : ℕ) (a b : ℤ) → m < N → n < N
-        → quadratic C N (edited x (record { cell = m; amount = a } ∷ record { cell = n; amount = b } ∷ []))
-        ≡ quadratic C N x +ℤ pos 2 *ℤ (a *ℤ transform C N x m +ℤ b *ℤ transform C N x n)
-        +ℤ (a *ℤ a *ℤ C m m +ℤ pos 2 *ℤ (a *ℤ b *ℤ C m n) +ℤ b *ℤ b *ℤ C n n)
-    unfolding sumOver
-    quadratic-edit-two x m n a b h k =
-        quadratic-edit x (record { cell = m; amount = a } ∷ record { cell = n; amount = b } ∷ []) (h, (k, tt))
-        ∙ rw (symm n m k h)
-        (ring! (quadratic C N x ∷ a ∷ b ∷ transform C N x m ∷ transform C N x n ∷ C m m ∷ C m n ∷ C n n ∷ [])
-        (search reify depth 40 fits 9000) refl)
 
 -- ---- the form is linear in the kernel, and a square of a linear form is a quadratic form
 pub quadratic-cong : (N : ℕ) (C D : ℕ → ℕ → ℤ) (e : ℕ → ℤ)

@@ -5,7 +5,7 @@ use mathlib.Core.Bool.{Bool, true, false}
 use mathlib.Core.Logic.{_⊎_, inl, inr}
 use mathlib.Core.List.{List, [], _∷_, _++_, map}
 use Prim.Native.Nat.{ℕ, zero, suc, _+_, _*_, _-_, _≤_, _<_}
-use native.Mathlib.Nat.{not-suc-le-zero}
+use native.Mathlib.Nat.{not-suc-le-zero, lt-of-lt-of-le}
 use native.Mathlib.Decide.{ℕ-discrete, decLt}
 use native.Mathlib.Omega.{arith}
 use lib.Dec.{T, ltb, leb→le, ltb→lt, lt→ltb}
@@ -16,6 +16,7 @@ use lib.ListN.{List·getD-append, List·getD-map, List·getD-eq-default}
 use lib.Seq.{getD-at, getD-set-same, getD-set-other, ext-getD}
 use Rattle.algebra.proofs.Solver.{ring!, reify}
 use Rattle.algebra.proofs.Order.{show≤, show<, show≡, read<, read≡}
+use Rattle.algebra.proofs.Grid.{cell<}
 use Rattle.algebra.proofs.Interval.{Supported2}
 use Rattle.model.specs.Basic.{pick, tabulate, AtMost, gridAt, squareAt}
 
@@ -193,6 +194,29 @@ module _ {A : Type 0} (z : A) (r : ℕ) (l : List A) (row col y x : ℕ) where
       outside (inl (inr h)) = square-below z r l _ _ (past y row h)
       outside (inr (inl h)) = square-left z r l _ _ (under x col h)
       outside (inr (inr h)) = square-right z r l _ _ (past x col h)
+
+-- entries after those of the square are not read
+pub square-append : {A : Type 0} (z : A) (r : ℕ) (k l : List A) (dy dx : ℤ) → (2 * r + 1) * (2 * r + 1) ≤ length k
+    → squareAt z r (k ++ l) dy dx ≡ squareAt z r k dy dx
+unfolding squareAt gridAt
+square-append z r k l dy dx h = go (dy +ℤ pos r) (dx +ℤ pos r)
+  where
+    n : ℕ
+    n = 2 * r + 1
+
+    chosen : (y x : ℕ) (a b : Bool) → ltb y n ≡ a → ltb x n ≡ b
+        → pick a (pick b (getD (k ++ l) (y * n + x) z) z) z ≡ pick a (pick b (getD k (y * n + x) z) z) z
+    chosen y x true true e f =
+        let down : y < 2 * r + 1 = ltb→lt y n (subst T (sym e) tt) in
+        let along : x < 2 * r + 1 = ltb→lt x n (subst T (sym f) tt) in
+        List·getD-append k l z (y * n + x) (lt-of-lt-of-le (cell< down along) h)
+    chosen y x true false e f = refl
+    chosen y x false b e f = refl
+
+    go : (y x : ℤ) → gridAt z (2 * r + 1) (k ++ l) y x ≡ gridAt z (2 * r + 1) k y x
+    go (pos y) (pos x) = chosen y x (ltb y n) (ltb x n) refl refl
+    go (pos y) (negsuc x) = refl
+    go (negsuc y) x = refl
 
 -- a square of images
 pub square-map : {A B : Type 0} (f : A → B) (z : A) (r : ℕ) (l : List A) (dy dx : ℤ)

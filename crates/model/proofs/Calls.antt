@@ -1,8 +1,10 @@
 -- What a call answers and leaves where it is refused, and where it is not.
 use mathlib.Core.Path.{_≡_, refl, sym, _∙_, ap, subst}
+use mathlib.Core.List.{List}
 use Prim.Native.Nat.{ℕ, zero, suc}
 use native.Mathlib.Omega.{arith}
-use Rattle.model.specs.Calls.{Reply, result, refused, Outcome, unless}
+use lib.IntN.{ℤ}
+use Rattle.model.specs.Calls.{Reply, result, refused, Outcome, unless, Buffers}
 
 -- the value of a result
 abbrev valueOr : {A : Type 0} → A → Reply A → A
@@ -31,3 +33,22 @@ module _ {A B : Type 0} (b : B) (o : Outcome A B) where
       → (n ≡ 0) × (v ≡ a) × (o ≡ unless n b o)
   was-done zero {a} e f = (refl, ap (valueOr a) (sym e) ∙ ap (valueOr a) f, refl)
   was-done (suc n) e f = absurd (subst IsResult (sym f) tt)
+
+-- the same, of a call that is lent dots and table
+module _ {A : Type 0} (dots : List ℕ) (table : List ℤ) (o : Outcome A Buffers) (n : ℕ) where
+  abbrev lent : Buffers
+  lent = record { dots = dots; table = table }
+
+  abbrev Left : Reply A → List ℕ → List ℤ → Type 0
+  Left r d t =
+      (r ≡ unless n lent o .reply) × ((d ≡ unless n lent o .buffer .dots) × (t ≡ unless n lent o .buffer .table))
+
+  pub both-refused : {x : ℕ} → x ≡ n → (x ≡ 0 → ⊥) → Left (refused x) dots table
+  both-refused e h =
+      let (reply, left) = is-refused lent o n e h in
+      (reply, (ap (λ b. b .dots) left, ap (λ b. b .table) left))
+
+  pub both-done : {d : List ℕ} {t : List ℤ} → n ≡ 0 → d ≡ o .buffer .dots → t ≡ o .buffer .table → Left (o .reply) d t
+  both-done taken e f =
+      let (reply, left) = is-done lent o n taken refl in
+      (reply, (e ∙ ap (λ b. b .dots) left, f ∙ ap (λ b. b .table) left))

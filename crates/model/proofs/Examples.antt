@@ -5,21 +5,32 @@ use Rattle.model.specs.Basic.{tabulate, gridAt, squareAt}
 use Rattle.model.specs.Psf.{total, psfAt, autocorrelation}
 use Rattle.model.specs.Error.{kernel, error, filteredError, filteredErrors, squaredError}
 use Rattle.model.specs.Screen.{bayer, thresholdAt, ordered, startDots}
+use Rattle.model.specs.Refusal.{above}
+use Rattle.model.specs.State.{someBelow, badTable, wrongStats, toggleRefusal, swapRefusal}
+use Rattle.model.specs.Reference.{made, toggle, swap, accept, statsOf, change, attempt}
+use Rattle.model.specs.Calls.{attemptCall, toggleCall, swapCall}
 use Rattle.model.specs.Examples.{Examples}
 
 pub examples : Examples
 unfolding sumTo sumFrom tabulate gridAt squareAt psfAt autocorrelation kernel error filteredError filteredErrors
-    squaredError total bayer thresholdAt ordered startDots
+    squaredError total bayer thresholdAt ordered startDots above someBelow badTable wrongStats toggleRefusal swapRefusal
+    made toggle swap accept statsOf change attempt attemptCall toggleCall swapCall
 examples =
     record {
       black-blank = refl;
+      black-toggle = refl;
+      over-half-toggle = refl;
+      under-half-toggle = refl;
       even-at-0 = refl;
       even-at-1 = refl;
       even-at-2 = refl;
       pair-blank-table = refl;
       pair-blank-error = refl;
+      pair-toggle = refl;
+      pair-tie = refl;
       pair-dot-table = refl;
       pair-dot-error = refl;
+      pair-swap = refl;
       lopsided-at-0 = refl;
       lopsided-right = refl;
       lopsided-left = refl;

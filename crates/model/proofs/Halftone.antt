@@ -9,10 +9,12 @@ use lib.Signed.{_≤ℤ_}
 use Rattle.algebra.specs.Sum.{sumTo}
 use Rattle.algebra.proofs.Order.{natAbs-above}
 use Rattle.model.specs.Basic.{AtMost}
-use Rattle.model.specs.Error.{Target, targetOf, kernel, error, filteredError, squaredError, mostSquared}
+use Rattle.model.specs.Error.{Target, targetOf, mostSquared, kernel, error}
+use Rattle.model.specs.Error.{filteredError, filteredErrors, squaredError}
 use Rattle.model.specs.Refusal.{HalftoneFits}
-use Rattle.model.specs.Window.{mostFiltered}
+use Rattle.model.specs.Window.{Small, mostFiltered}
 use Rattle.model.proofs.Error.{filtered-part≤, filtered≤, squared≤, squared-nonneg, error≤}
+use Rattle.model.proofs.Window.{small-tabulate}
 
 -- its cells are at most 65,536
 pub few-cells : {w h r : ℕ} {psf gray dots : List ℕ} {table : ℕ} → HalftoneFits w h r psf gray dots table
@@ -35,6 +37,10 @@ module _ (w h r : ℕ) (psf gray dots : List ℕ) {table : ℕ}
 
   pub filtered-most : (m : ℕ) → natAbs (filteredError target dots m) ≤ mostFiltered
   filtered-most = filtered≤ target (f .wide .0) (f .psf-fits .square) 1024 255 (f .psf-fits .sum-high) dots errors
+
+  pub filtered-small : Small mostFiltered (filteredErrors target dots)
+  unfolding filteredErrors
+  filtered-small = small-tabulate mostFiltered (h * w) (filteredError target dots) (λ q l. filtered-most q)
 
   pub squared-least : pos 0 ≤ℤ squaredError target dots
   squared-least = squared-nonneg target (f .wide .0) dots

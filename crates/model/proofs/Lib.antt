@@ -5,9 +5,13 @@ pub mod Error
 pub mod Window
 pub mod Screen
 pub mod Refusal
+pub mod Change
 pub mod Halftone
 pub mod State
-pub mod Start
+pub mod Later
 pub mod Calls
+pub mod Start
+pub mod Reference
+pub mod Attempts
 pub mod Examples
 pub mod Promises

@@ -1,26 +1,32 @@
 -- The promises of document 01 that are due so far, each proved by citing the law that does the work. That the public
--- calls answer and leave just this stands in their contracts (crates/filter/src/lib.rt, crates/starts/src/lib.rt),
--- which cite the same definitions.
-use mathlib.Core.Path.{_≡_, refl, _∙_, subst}
+-- calls answer and leave just this stands in their contracts (src/lib.rt of crates/filter, crates/starts and
+-- crates/search), which cite the same definitions.
+use mathlib.Core.Path.{_≡_, refl, sym, _∙_, subst}
 use mathlib.Core.Logic.{_⊎_, inl, inr}
 use mathlib.Core.List.{List, [], _∷_, filter}
-use Prim.Native.Nat.{ℕ, _+_, _*_, _≤_}
+use Prim.Native.Nat.{ℕ, _+_, _*_, _≤_, _<_}
 use native.Mathlib.Decide.{ℕ-discrete}
-use lib.IntN.{ℤ, pos, negℤ, natAbs, _+ℤ_, _*ℤ_}
+use lib.IntN.{ℤ, pos, negℤ, natAbs, _+ℤ_, _-ℤ_, _*ℤ_}
 use lib.Signed.{_≤ℤ_, _<ℤ_}
-use lib.ListN.{length}
+use lib.ListN.{length, getD}
 use Rattle.algebra.specs.Sum.{sumFrom, sumOver}
 use Rattle.algebra.specs.Quadratic.{Increment, Within, edited}
+use Rattle.algebra.proofs.Grid.{cell<}
 use Rattle.model.specs.declared.Measures.{Measures}
 use Rattle.model.specs.declared.Stats.{Stats}
 use Rattle.model.specs.Basic.{AtMost}
-use Rattle.model.specs.Psf.{total, autocorrelation}
-use Rattle.model.specs.Error.{Target, targetOf, targetFor, cells, kernel, error}
+use Rattle.model.specs.Psf.{total, autocorrelation, peak}
+use Rattle.model.specs.Error.{Target, targetOf, targetFor, cellAt, cells, kernel, error}
 use Rattle.model.specs.Error.{filteredError, filteredErrors, squaredError, perceivedSquares}
 use Rattle.model.specs.Refusal.{firstOf, halftoneRefusal, startRefusal, HalftoneFits}
-use Rattle.model.specs.State.{freshStats, badTable, badStats, laterRefusal, StateFits}
+use Rattle.model.specs.State.{freshStats, badTable, badStats, wrongStats, StateFits, LaterFits}
+use Rattle.model.specs.State.{laterRefusal, toggleRefusal, swapRefusal}
+use Rattle.model.specs.Change.{sign, toggleSum, swapSum, counted}
+use Rattle.model.specs.Reference.{Move, made, toggle, swap, reference, accept, Tried, accepted, declined}
+use Rattle.model.specs.Reference.{change, attempt}
 use Rattle.model.specs.Screen.{startDots}
-use Rattle.model.specs.Calls.{result, Buffers, withTable, startCall}
+use Rattle.model.specs.Calls.{result, statsAfter, Buffers, withTable, startCall}
+use Rattle.model.specs.Calls.{attemptCall, toggleCall, swapCall}
 use Rattle.model.specs.Examples.{Examples}
 use Rattle.model.proofs.Psf.{autocorrelation-even, autocorrelation-supported}
 use Rattle.model.proofs.Psf.{autocorrelation-nonneg, autocorrelation-total}
@@ -29,7 +35,11 @@ use Rattle.model.proofs.Refusal.{none, drawn-none, halftone-again, half
 use Rattle.model.proofs.Halftone.{filtered-most, squared-least, squared-most}
 use Rattle.model.proofs.Calls.{was-done}
 use Rattle.model.proofs.State.{dots-counted, state-accepted, state-known}
-use Rattle.model.proofs.Start.{start-state, start-accepted}
+use Rattle.model.proofs.Start.{start-state, start-later}
+use Rattle.model.proofs.Later.{fits-later, toggle-enters, swap-enters}
+use Rattle.model.proofs.Change.{Placed, toggle-change, swap-change, change-least}
+use Rattle.model.proofs.Reference.{Legal, toggle-legal, swap-legal}
+use Rattle.model.proofs.Attempts.{attempt-cases, attempt-later, counted-is}
 use Rattle.model.proofs.Examples.{examples}
 
 -- ---- the autocorrelation, of any psf
@@ -117,7 +127,7 @@ module _ (m : Measures) (psf gray : List ℕ) where
         start-dots-are-counted = dots-counted (startDots m gray dots) (start-fits m psf gray dots table e .bits);
         counts-are-0 = (refl, refl, refl);
         table-is-fresh = refl;
-        is-accepted = start-accepted m psf gray dots table bytes e;
+        is-accepted = fits-later m psf gray _ _ _ (start-later m psf gray dots table bytes e);
       }
 
   pub start-begins : (dots : List ℕ) (table : List ℤ) (s : Stats) → AtMost 255 gray
@@ -140,7 +150,7 @@ module _ (t : Target) (dots : List ℕ) (table : List ℤ) (s : Stats) where
   pub accepted-state-fits : length table ≡ cells t
       → firstOf (badTable t dots table ∷ badStats t dots s ∷ []) ≡ 0
       → StateFits t dots table s
-  unfolding badTable badStats
+  unfolding badTable wrongStats
   accepted-state-fits long e =
       state-known t dots table s long (none (badTable t dots table ∷ badStats t dots s ∷ []) tt refl e)
 
@@ -157,6 +167,124 @@ module _ (t : Target) (dots dots′ : List ℕ) (l : List Increment) (inside : W
       +ℤ pos 2 *ℤ sumOver l (λ c. c .amount *ℤ filteredError t dots (c .cell))
       +ℤ sumOver l (λ c. sumOver l (λ d. c .amount *ℤ d .amount *ℤ kernel t (d .cell) (c .cell)))
   squared-error-after-edit = squared-edit t dots dots′ l inside edit
+
+-- ---- one change, of any target and step: E of the changed copy less E before
+module _ (t : Target) (dots : List ℕ) (long : length dots ≡ cells t) where
+  module _ (bits : AtMost 1 dots) where
+    -- a toggle at m: step × (2 × s(m) × T(m) + step × P)
+    pub toggle-changes-by : (m : ℕ) → m < cells t
+        → squaredError t (made dots (toggle dots m .sets)) -ℤ squaredError t dots
+        ≡ pos (t .step)
+        *ℤ (pos 2 *ℤ sign dots m *ℤ filteredError t dots m +ℤ pos (t .step) *ℤ peak (t .radius) (t .psf))
+    unfolding change toggleSum
+    toggle-changes-by = toggle-change t dots bits long
+
+    -- a swap of m and n, whose dots differ: 2 × step × (s(m) × (T(m) - T(n)) + step × (P - c(m - n)))
+    pub swap-changes-by : (m n : ℕ) → m < cells t → n < cells t → (getD dots m 0 ≡ getD dots n 0 → ⊥)
+        → squaredError t (made dots (swap dots m n .sets)) -ℤ squaredError t dots
+        ≡ pos (2 * t .step)
+        *ℤ (sign dots m *ℤ (filteredError t dots m -ℤ filteredError t dots n)
+        +ℤ pos (t .step) *ℤ (peak (t .radius) (t .psf) -ℤ kernel t m n))
+    unfolding change swapSum
+    swap-changes-by = swap-change t dots bits long
+
+  -- any change below 0, of cells on the plate, is at most -step
+  pub change-below-0-is-a-step : (v : Move) → Placed (cells t) (v .sets)
+      → change t dots v <ℤ pos 0 → change t dots v ≤ℤ negℤ (pos (t .step))
+  change-below-0-is-a-step v = change-least t dots v long
+
+-- ---- attempts: what one that is not refused was handed, answers and leaves
+module _ (m : Measures) (psf gray dots : List ℕ) (table : List ℤ) (s : Stats) where
+  -- accepted exactly when the change is below 0, and then by 255 at least; declined, nothing changes
+  abbrev pub Verdict : Move → Buffers → Tried → Type 0
+  Verdict v left (accepted s′ d) =
+      (d ≡ change (targetFor m psf gray) dots v)
+      × (d ≤ℤ negℤ (pos 255))
+      × (s′ ≡ counted s d (v .raises))
+      × (left .dots ≡ made dots (v .sets))
+  Verdict v left (declined d) =
+      (d ≡ change (targetFor m psf gray) dots v) × (pos 0 ≤ℤ d) × (left .dots ≡ dots) × (left .table ≡ table)
+
+  pub record Tries (v : Move) (answer : Tried) (left : Buffers) : Type 0 where
+    -- before, the table is T and E now is the sum over the dots
+    pub table-was-fresh : table ≡ filteredErrors (targetFor m psf gray) dots
+    pub error-was-sum : s .error ≡ squaredError (targetFor m psf gray) dots
+    -- so they are after it, over the dots left
+    pub table-is-fresh : left .table ≡ filteredErrors (targetFor m psf gray) (left .dots)
+    pub error-is-sum : statsAfter s (result answer) .error ≡ squaredError (targetFor m psf gray) (left .dots)
+    -- the answer and the dots are those of the reference, which has no table
+    pub answer-is-reference : answer ≡ attempt (targetFor m psf gray) (reference dots s) v .answer
+    pub dots-are-reference : left .dots ≡ attempt (targetFor m psf gray) (reference dots s) v .after .dots
+    pub verdict : Verdict v left answer
+    -- no later call refuses what is left: neither 1 to 7 nor 20 nor 21 is drawn
+    pub is-accepted : laterRefusal m psf gray (left .dots) (left .table) (statsAfter s (result answer)) ≡ 0
+
+  abbrev T : Target
+  T = targetFor m psf gray
+
+  tries : (v : Move) → LaterFits m psf gray dots table s → Legal (length dots) dots v
+      → (let done = attempt T (reference dots s) v in Tries v (done .answer) (withTable T (done .after .dots)))
+  unfolding accept
+  tries v f legal =
+      let kept = attempt-later m psf gray dots table s f v legal in
+      record {
+        table-was-fresh = f .state .table-is;
+        error-was-sum = f .state .error-is;
+        table-is-fresh = refl;
+        error-is-sum = kept .state .error-is;
+        answer-is-reference = refl;
+        dots-are-reference = refl;
+        verdict = verdict;
+        is-accepted = fits-later m psf gray _ _ _ kept;
+      }
+    where
+      long : length dots ≡ cells (targetFor m psf gray)
+      long = f .halftone .dots-length
+
+      verdict : (let done = attempt T (reference dots s) v in
+          Verdict v (withTable T (done .after .dots)) (done .answer))
+      verdict =
+          attempt-cases T (reference dots s) v (λ done. Verdict v (withTable T (done .after .dots)) (done .answer))
+          (λ l. (
+            refl,
+            change-least T dots v long (subst (λ n. Placed n (v .sets)) long (legal .placed)) l,
+            sym (counted-is T dots s v (f .state .error-is) refl),
+            refl,
+          ))
+          (λ l. (refl, l, refl, sym (f .state .table-is)))
+
+  -- the call of an attempt that is legal once it is not refused
+  by-call : (number : ℕ) (v : Move) (answer : Tried)
+      → (number ≡ 0 → LaterFits m psf gray dots table s × Legal (length dots) dots v)
+      → attemptCall number T dots table (attempt T (reference dots s) v) .reply ≡ result answer
+      → Tries v answer (attemptCall number T dots table (attempt T (reference dots s) v) .buffer)
+  unfolding attemptCall
+  by-call number v answer enters e =
+      let (taken, value, same) = was-done _ _ number refl e in
+      let (fits, legal) = enters taken in
+      subst (λ o. Tries v answer (o .buffer)) same
+      (subst (λ a. Tries v a (withTable T (attempt T (reference dots s) v .after .dots))) value (tries v fits legal))
+
+  pub toggle-tries : (row col : ℕ) (answer : Tried)
+      → toggleCall m psf gray dots table s row col .reply ≡ result answer
+      → Tries (toggle dots (cellAt (m .width) row col)) answer (toggleCall m psf gray dots table s row col .buffer)
+  unfolding toggleCall
+  toggle-tries row col answer =
+      by-call (toggleRefusal m psf gray dots table s row col) (toggle dots (cellAt (m .width) row col)) answer (λ taken.
+      let (fits, r, c) = toggle-enters m psf gray dots table s row col taken in
+      (fits, toggle-legal dots (fits .halftone .bits) _ (rw (fits .halftone .dots-length) (cell< r c))))
+
+  pub swap-tries : (row col row′ col′ : ℕ) (answer : Tried)
+      → swapCall m psf gray dots table s row col row′ col′ .reply ≡ result answer
+      → Tries (swap dots (cellAt (m .width) row col) (cellAt (m .width) row′ col′)) answer
+      (swapCall m psf gray dots table s row col row′ col′ .buffer)
+  unfolding swapCall
+  swap-tries row col row′ col′ answer =
+      by-call (swapRefusal m psf gray dots table s row col row′ col′)
+      (swap dots (cellAt (m .width) row col) (cellAt (m .width) row′ col′)) answer (λ taken.
+      let (fits, (r, c), (r′, c′), unlike) = swap-enters m psf gray dots table s row col row′ col′ taken in
+      let long = fits .halftone .dots-length in
+      (fits, swap-legal dots (fits .halftone .bits) _ _ (rw long (cell< r c)) (rw long (cell< r′ c′)) unlike))
 
 -- ---- the starred examples of document 01
 pub examples-hold : Examples

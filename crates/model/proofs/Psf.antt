@@ -20,6 +20,10 @@ use Rattle.model.specs.Psf.{total, psfAt, autocorrelation, autocorrelati
 use Rattle.model.proofs.Basic.{square-above, square-below, square-left, square-right, square-inside, square-by}
 use Rattle.model.proofs.Basic.{length-tabulate, getD-tabulate}
 
+-- the side of the square of c, whose reach is 2r
+pub side : (r : ℕ) → 2 * (2 * r) + 1 ≡ 4 * r + 1
+side r = omega arith
+
 -- the sum of a list, entry by entry
 pub total-sum : (l : List ℕ) → sumTo (length l) (λ n. pos (getD l n 0)) ≡ pos (total l)
 unfolding sumTo total
@@ -205,12 +209,10 @@ module _ (r : ℕ) (psf : List ℕ) where
         → sumFrom a H (λ y. sumFrom b W (autocorrelation r psf y)) ≤ℤ (pos (total psf) *ℤ pos (total psf))
     autocorrelation-grid≤ H W a b =
         subst (λ z. sumFrom a H (λ y. sumFrom b W (autocorrelation r psf y)) ≤ℤ z)
-        (ap (λ n. sumFrom (negℤ (pos (2 * r))) n (λ y. sumFrom (negℤ (pos (2 * r))) n (autocorrelation r psf y))) size
+        (ap (λ n. sumFrom (negℤ (pos (2 * r))) n (λ y. sumFrom (negℤ (pos (2 * r))) n (autocorrelation r psf y)))
+        (side r)
         ∙ autocorrelation-total e)
         (grid≤ (2 * r) (autocorrelation r psf) autocorrelation-supported H W a b autocorrelation-nonneg)
-      where
-        size : 2 * (2 * r) + 1 ≡ 4 * r + 1
-        size = omega arith
 
     pub autocorrelation≤ : (dy dx : ℤ) → autocorrelation r psf dy dx ≤ℤ (pos (total psf) *ℤ pos (total psf))
     autocorrelation≤ dy dx =
@@ -229,9 +231,6 @@ module _ (r : ℕ) (psf : List ℕ) where
   autocorrelations-at dy dx =
       square-by (2 * r) _ (autocorrelation r psf) autocorrelation-supported entry dy dx
     where
-      side : 2 * (2 * r) + 1 ≡ 4 * r + 1
-      side = omega arith
-
       c : ℤ → ℤ → ℤ
       c = autocorrelation r psf
 
@@ -241,6 +240,6 @@ module _ (r : ℕ) (psf : List ℕ) where
       entry i j h k =
           let u : i < 4 * r + 1 = omega arith in
           let v : j < 4 * r + 1 = omega arith in
-          ap (λ n. getD (autocorrelations r psf) (i * n + j) (pos 0)) side
+          ap (λ n. getD (autocorrelations r psf) (i * n + j) (pos 0)) (side r)
           ∙ getD-tabulate ((4 * r + 1) * (4 * r + 1)) _ (i * (4 * r + 1) + j) (pos 0) (cell< u v)
           ∙ ap₂ (λ a b. c (pos a -ℤ pos (2 * r)) (pos b -ℤ pos (2 * r))) (cell-row v) (cell-column i v)

@@ -40,6 +40,16 @@ pub drawn-none : (l : List Refusal) → None l → firstOf l ≡ 0
 drawn-none [] h = refl
 drawn-none (n when b ∷ l) h = rw (h .0) (drawn-none l (h .1))
 
+-- of two lists together
+pub numbered-append : (l k : List Refusal) → T (numbered l) → T (numbered k) → T (numbered (l ++ k))
+numbered-append [] k t u = u
+numbered-append (zero when b ∷ l) k t u = absurd t
+numbered-append (suc n when b ∷ l) k t u = numbered-append l k t u
+
+pub none-append : (l k : List Refusal) → None (l ++ k) → None l × None k
+none-append [] k h = (tt, h)
+none-append (n when b ∷ l) k h = let (a, c) = none-append l k (h .1) in ((h .0, a), c)
+
 -- the first of two lists, by those of each
 first-append : (l k : List Refusal) → T (numbered l) → either (firstOf l) (firstOf k) ≡ firstOf (l ++ k)
 first-append [] k t = refl
@@ -87,7 +97,7 @@ size-inside w h e =
     let (wide, high) = neither (outside w) (outside h) e in
     (inside 256 w wide, inside 256 h high)
 
-none-above : (k : ℕ) (l : List ℕ) → above k l ≡ false → (i : ℕ) → getD l i 0 ≤ k
+pub none-above : (k : ℕ) (l : List ℕ) → above k l ≡ false → (i : ℕ) → getD l i 0 ≤ k
 unfolding above
 none-above k [] h i = omega arith
 none-above k (x ∷ l) h zero = ltb-false k x (neither (ltb k x) (above k l) h .0)
@@ -139,7 +149,7 @@ autocorrelation-fits r psf out e =
     (psf-by r psf radius p-is sum, o-is)
 
 -- a plate by its conditions; the n dots that were judged may have given way to others, as many
-halftone-by : (w h r : ℕ) (psf gray dots : List ℕ) (table : ℕ) {n : ℕ}
+pub halftone-by : (w h r : ℕ) (psf gray dots : List ℕ) (table : ℕ) {n : ℕ}
     → outside w || outside h ≡ false
     → ltb 3 r ≡ false
     → not (eqb (length psf) ((2 * r + 1) * (2 * r + 1))) || differs (h * w) (length gray ∷ n ∷ table ∷ []) ≡ false

@@ -3,6 +3,7 @@
 use mathlib.Core.List.{List, [], _∷_, _++_}
 use mathlib.Core.Path.{_≡_, refl, sym, _∙_, ap, subst}
 use Prim.Native.Nat.{ℕ}
+use borrow.Author.Tests.{ltb-false}
 use lib.IntN.{ℤ}
 use lib.ListN.{length}
 use Rattle.model.specs.declared.Measures.{Measures}
@@ -10,14 +11,14 @@ use Rattle.model.specs.declared.Stats.{Stats}
 use Rattle.model.specs.Basic.{AtMost}
 use Rattle.model.specs.Error.{Target, targetFor, filteredErrors}
 use Rattle.model.specs.Screen.{startDots}
-use Rattle.model.specs.Refusal.{Refusal, handed, badDot, badGiven, startRefusal, HalftoneFits}
-use Rattle.model.specs.State.{freshStats, badTable, badStats, laterRefusal, StateFits}
-use Rattle.model.specs.Calls.{result, refused, Buffers, startCall}
+use Rattle.model.specs.Refusal.{Refusal, handed, badGiven, startRefusal, HalftoneFits}
+use Rattle.model.specs.State.{freshStats, StateFits, LaterFits}
+use Rattle.model.specs.Calls.{result, refused, startCall}
 use Rattle.model.proofs.Error.{filtered-long}
-use Rattle.model.proofs.Calls.{is-refused, is-done}
-use Rattle.model.proofs.Refusal.{drawn-none, none, halftone-none, start-fits}
+use Rattle.model.proofs.Calls.{both-refused, both-done}
+use Rattle.model.proofs.Refusal.{none, start-fits}
 use Rattle.model.proofs.Halftone.{squared-least, squared-most}
-use Rattle.model.proofs.State.{state-accepted, fresh-fits}
+use Rattle.model.proofs.State.{fresh-fits}
 
 -- ---- the answer and the buffers
 module _ (m : Measures) (psf gray dots : List ℕ) (table : List ℤ) where
@@ -26,10 +27,7 @@ module _ (m : Measures) (psf gray dots : List ℕ) (table : List ℤ) where
       × ((dots ≡ startCall m psf gray dots table .buffer .dots)
       × (table ≡ startCall m psf gray dots table .buffer .table))
   unfolding startCall
-  start-refused e h =
-      let buffers : Buffers = record { dots = dots; table = table } in
-      let (reply, left) = is-refused buffers _ (startRefusal m psf gray dots (length table)) e h in
-      (reply, (ap (λ b. b .dots) left, ap (λ b. b .table) left))
+  start-refused e h = both-refused dots table _ (startRefusal m psf gray dots (length table)) e h
 
   -- where the dots are those of the kind, and the table and the ledger are fresh
   pub start-done : startRefusal m psf gray dots (length table) ≡ 0 → {d : List ℕ} {t : List ℤ} {s : Stats}
@@ -41,11 +39,10 @@ module _ (m : Measures) (psf gray dots : List ℕ) (table : List ℤ) where
       × (t ≡ startCall m psf gray dots table .buffer .table))
   unfolding startCall
   start-done taken e f g =
-      let buffers : Buffers = record { dots = dots; table = table } in
-      let (reply, left) = is-done buffers _ (startRefusal m psf gray dots (length table)) taken refl in
-      let table = f ∙ ap (filteredErrors (targetFor m psf gray)) e in
-      let stats = g ∙ ap (freshStats (targetFor m psf gray)) e in
-      (ap result stats ∙ reply, (e ∙ ap (λ b. b .dots) left, table ∙ ap (λ b. b .table) left))
+      let (reply, left)
+      = both-done dots table _ (startRefusal m psf gray dots (length table)) taken e
+      (f ∙ ap (filteredErrors (targetFor m psf gray)) e) in
+      (ap result (g ∙ ap (freshStats (targetFor m psf gray)) e) ∙ reply, left)
 
 -- ---- what is left
 module _ (m : Measures) (psf gray dots : List ℕ) (table : ℕ) (bytes : AtMost 255 gray)
@@ -68,17 +65,16 @@ module _ (m : Measures) (psf gray dots : List ℕ) (table : ℕ) (bytes : AtMost
       (squared-least (m .width) (m .height) (m .radius) psf gray begun fits bytes)
       (squared-most (m .width) (m .height) (m .radius) psf gray begun fits bytes)
 
-  pub start-accepted : laterRefusal m psf gray begun (filteredErrors t begun) (freshStats t begun) ≡ 0
-  unfolding laterRefusal startRefusal badTable badStats
-  start-accepted =
+  -- what is left is what later calls accept
+  pub start-later : LaterFits m psf gray begun (filteredErrors t begun) (freshStats t begun)
+  unfolding startRefusal
+  start-later =
       let lengths : List ℕ = length gray ∷ length dots ∷ table ∷ [] in
       let judged : List Refusal = handed m psf lengths ++ (badGiven (m .start) dots ∷ []) in
       let (_, (_, (reach, (kind, _)))) = none judged tt refl taken in
-      let T : List ℤ = filteredErrors t begun in
-      let left = subst Fits (fits .table-length ∙ sym (filtered-long t begun)) fits in
-      let (size, (radius, (lent, (sum, (dot, _)))))
-      = halftone-none (m .width) (m .height) (m .radius) psf gray begun (length T) left in
-      drawn-none
-      (handed m psf (length gray ∷ length begun ∷ length T ∷ [])
-      ++ (badDot begun ∷ badTable t begun T ∷ badStats t begun (freshStats t begun) ∷ []))
-      (size, (radius, (reach, (kind, (lent, (sum, (dot, state-accepted t begun T (freshStats t begun) start-state)))))))
+      record {
+        reach-near = ltb-false 6 (m .reach) reach;
+        kind-known = ltb-false 2 (m .start) kind;
+        halftone = subst Fits (fits .table-length ∙ sym (filtered-long t begun)) fits;
+        state = start-state;
+      }

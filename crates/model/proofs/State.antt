@@ -11,7 +11,7 @@ use native.Mathlib.Omega.{arith}
 use borrow.Author.Tests.{le-ltb, ltb-false}
 use lib.Dec.{T, ltb, lit≤}
 use lib.IntN.{ℤ, pos, +ℤ-invr}
-use lib.Signed.{ltZ, _≤ℤ_, ≤ℤ-refl, ltZ-no, clashℤ}
+use lib.Signed.{ltZ, _≤ℤ_, _<ℤ_, ≤ℤ-refl, ltZ-no, clashℤ}
 use lib.ListN.{length, getD}
 use Rattle.algebra.proofs.Solver.{reify}
 use Rattle.algebra.proofs.Order.{ordℤ, show≡}
@@ -20,12 +20,12 @@ use Rattle.model.specs.Basic.{AtMost}
 use Rattle.model.specs.Psf.{total}
 use Rattle.model.specs.Error.{Target, cells, filteredError, filteredErrors, squaredError, mostSquared}
 use Rattle.model.specs.State.{dotTotal, unequal, someBelow, some, faults, freshStats}
-use Rattle.model.specs.State.{badTable, badStats, StateFits}
+use Rattle.model.specs.State.{badTable, badStats, wrongStats, StateFits}
 use Rattle.model.proofs.Basic.{at-most-tail, getD-tabulate, tabulate-by}
 use Rattle.model.proofs.Refusal.{None, neither, _nor_}
 
 -- ---- the dot total
-total≤ : (k : ℕ) (l : List ℕ) → AtMost k l → total l ≤ length l * k
+pub total≤ : (k : ℕ) (l : List ℕ) → AtMost k l → total l ≤ length l * k
 unfolding total
 total≤ k [] h = omega arith
 total≤ k (x ∷ l) h = omega (arith, h .each 0, total≤ k l (at-most-tail h))
@@ -52,13 +52,16 @@ not-below a b h = go (ltZ a b) refl
     go true e = clashℤ {a = a} {b = b} (record { lt = subst T (sym e) tt }) h
     go false e = refl
 
-at-least : (a b : ℤ) → ltZ a b ≡ false → b ≤ℤ a
+pub below : {a b : ℤ} → ltZ a b ≡ true → a <ℤ b
+below e = record { lt = subst T (sym e) tt }
+
+pub at-least : (a b : ℤ) → ltZ a b ≡ false → b ≤ℤ a
 at-least a b h = ltZ-no {a = a} {b = b} (subst (λ x. T (not x)) (sym h) tt)
 
-same : {a b : ℤ} → a ≡ b → unequal a b ≡ false
+pub same : {a b : ℤ} → a ≡ b → unequal a b ≡ false
 same {a} {b} e = rw (e, not-below b b (≤ℤ-refl b)) refl
 
-equal : (a b : ℤ) → unequal a b ≡ false → a ≡ b
+pub equal : (a b : ℤ) → unequal a b ≡ false → a ≡ b
 equal a b h =
     let (low, high) = neither (ltZ a b) (ltZ b a) h in
     show≡ (a ∷ b ∷ []) (search reify depth 40) (omega (arith, ordℤ, at-least a b low, at-least b a high))
@@ -68,7 +71,7 @@ unfolding someBelow
 none-below zero f h = refl
 none-below (suc n) f h = rw (none-below n f (λ i k. h i (omega arith)), h n (omega arith)) refl
 
-all-below : (n : ℕ) (f : ℕ → Bool) → someBelow n f ≡ false → (i : ℕ) → i < n → f i ≡ false
+pub all-below : (n : ℕ) (f : ℕ → Bool) → someBelow n f ≡ false → (i : ℕ) → i < n → f i ≡ false
 unfolding someBelow
 all-below zero f h i l = absurd (not-suc-le-zero l)
 all-below (suc n) f h i l = go (ℕ-discrete i n) (all-below n f (both .0) i)
@@ -93,7 +96,7 @@ module _ (t : Target) (dots : List ℕ) where
   -- neither 20 nor 21 is drawn
   pub state-accepted : (table : List ℤ) (s : Stats) → StateFits t dots table s
       → None (badTable t dots table ∷ badStats t dots s ∷ [])
-  unfolding badTable badStats filteredErrors
+  unfolding badTable wrongStats filteredErrors
   state-accepted table s f = (
     none-below (cells t) _ (λ i h.
         same (ap (λ l. getD l i (pos 0)) (f .table-is)
@@ -113,9 +116,10 @@ module _ (t : Target) (dots : List ℕ) where
   -- and only such a state draws neither
   pub state-known : (table : List ℤ) (s : Stats) → length table ≡ cells t
       → None (badTable t dots table ∷ badStats t dots s ∷ []) → StateFits t dots table s
-  unfolding badTable badStats filteredErrors
+  unfolding badTable wrongStats filteredErrors
   state-known table s long drawn =
-      let (error, (start, (count, (few, (total, (fall, _)))))) = clear (faults t dots s) (drawn .1 .0) in
+      let (error, (start, (count, (few, (total, (fall, _))))))
+      = clear (faults (cells t) (t .step) (squaredError t dots) (dotTotal dots) s) (drawn .1 .0) in
       let first = s .«start_error» in
       let most : ℕ = 2 ^ 44 in
       let (low, (high, _)) = clear (ltZ first (pos 0) ∷ ltZ (pos mostSquared) first ∷ []) start in

@@ -2,14 +2,17 @@
 -- and that the filtered error and the autocorrelation are tables built so.
 use mathlib.Core.Path.{_≡_, refl, sym, _∙_, ap, ap₂, subst}
 use mathlib.Core.Bool.{Bool, true, false}
-use mathlib.Core.List.{List, [], _∷_, map}
+use mathlib.Core.List.{List, [], _∷_, _++_, map}
 use Prim.Native.Nat.{ℕ, _+_, _*_, _-_, _/_, _%_, _≤_, _<_}
 use native.Mathlib.Nat as NatL
+use native.Mathlib.Decide.{decLt}
 use native.Mathlib.Omega.{arith}
 use native.Mathlib.Numerals.{add-one}
 use lib.Dec.{ltb}
 use lib.IntN.{ℤ, pos, negsuc, negℤ, natAbs, _+ℤ_, _-ℤ_, _*ℤ_, *ℤ-comm}
-use lib.ListN.{length, getD, List·getD-map}
+use lib.ListN.{length, getD, drop, replicate, length-replicate, getD-replicate}
+use lib.ListN.{List·getD-append, List·getD-map, List·getD-eq-default}
+use lib.Seq.{getD-drop, getD-append-add}
 use Rattle.algebra.specs.Sum.{sumTo, sumFrom}
 use Rattle.algebra.proofs.Solver.{ring!, reify}
 use Rattle.algebra.proofs.Order.{natAbs-mul-le, show≡}
@@ -17,12 +20,11 @@ use Rattle.algebra.proofs.Grid.{row<, column<}
 use Rattle.algebra.proofs.Sum.{sumTo-suc, sum-cong}
 use Rattle.algebra.proofs.SumOrder.{sum-cells}
 use Rattle.model.specs.Basic.{pick, tabulate, gridAt, squareAt}
-use Rattle.model.specs.Psf.{psfAt, autocorrelation, autocorrelations}
+use Rattle.model.specs.Psf.{psfAt, autocorrelation}
 use Rattle.model.specs.Error.{Target, row, kernel, error}
-use Rattle.model.specs.Window.{gain, addWindow, scattered, Small, Scaled}
+use Rattle.model.specs.Window.{gain, addWindow, scattered, Small, Scaled, HoldsKernel}
 use Rattle.model.proofs.Basic.{length-tabulate, getD-tabulate, tabulate-each, tabulate-cong}
 use Rattle.model.proofs.Basic.{square-map, square-inside}
-use Rattle.model.proofs.Psf.{autocorrelations-at}
 use Rattle.model.proofs.Error.{kernel-symmetric}
 
 -- ---- sizes
@@ -34,6 +36,28 @@ small-bytes {k} l h = record { each = λ q. subst (λ (z : ℤ). natAbs z ≤ k)
 
 pub scaled-by : {j k m : ℕ} (a : ℤ) (l : List ℤ) → natAbs a ≤ j → Small k l → j * k ≤ m → Scaled m a l
 scaled-by a l p s h = record { each = λ q. NatL.le-trans (natAbs-mul-le a (getD l q (pos 0)) p (s .each q)) h }
+
+-- what is left of a list of zeros
+pub small-rest : {k : ℕ} (n m : ℕ) → Small k (drop n (replicate m (pos 0)))
+small-rest {k} n m =
+    record { each = λ q. rw (getD-drop n (replicate m (pos 0)) q (pos 0)) (go (n + q) (decLt (n + q) m)) }
+  where
+    go : (i : ℕ) → Dec (i < m) → natAbs (getD (replicate m (pos 0)) i (pos 0)) ≤ k
+    go i (yes h) = rw (getD-replicate m i (pos 0) (pos 0) h) (omega arith)
+    go i (no h) =
+        rw (List·getD-eq-default (replicate m (pos 0)) (pos 0) {n = i}
+        (rw (length-replicate m (pos 0)) (omega arith))) (omega arith)
+
+-- two lists together
+pub small-append : {k : ℕ} (l m : List ℤ) → Small k l → Small k m → Small k (l ++ m)
+small-append {k} l m a b = record { each = λ q. go q (decLt q (length l)) }
+  where
+    go : (q : ℕ) → Dec (q < length l) → natAbs (getD (l ++ m) q (pos 0)) ≤ k
+    go q (yes h) = rw (List·getD-append l m (pos 0) q h) (a .each q)
+    go q (no h) =
+        let e : q ≡ length l + (q - length l) = omega arith in
+        subst (λ (n : ℕ). natAbs (getD (l ++ m) n (pos 0)) ≤ k) (sym e)
+        (rw (getD-append-add l m (q - length l) (pos 0)) (b .each (q - length l)))
 
 -- and so is a square of small entries at every offset
 pub square-small : {k : ℕ} (r : ℕ) (l : List ℤ) (dy dx : ℤ) → Small k l → natAbs (squareAt (pos 0) r l dy dx) ≤ k
@@ -71,20 +95,20 @@ module _ (W R : ℕ) (c : List ℤ) where
         addWindow-tabulate N (scattered W R c amount row col n) (amount n) (row n) (col n)
         ∙ tabulate-cong N (λ q h. rw add-one (sym (sumTo-suc n (λ i. amount i *ℤ gain W R c (row i) (col i) q))))
 
--- ---- the table: a window of the autocorrelation for each cell, times its error
-module _ (t : Target) (dots : List ℕ) where
-  pub windows-filtered : (n q : ℕ)
-      → scattered (t .width) (2 * t .radius) (autocorrelations (t .radius) (t .psf)) (error t dots)
-      (λ i. i / t .width) (λ i. i % t .width) n q
+-- ---- the table: a window of the kernel for each cell, times its error
+module _ (t : Target) (c : List ℤ) (k : HoldsKernel (t .radius) (t .psf) c) where
+  -- the window of the cell i gains c(i - q) at q
+  pub gain-kernel : (i q : ℕ) → gain (t .width) (2 * t .radius) c (i / t .width) (i % t .width) q ≡ kernel t i q
+  unfolding kernel
+  gain-kernel i q = k .at _ _ ∙ kernel-symmetric t q i
+
+  pub windows-filtered : (dots : List ℕ) (n q : ℕ)
+      → scattered (t .width) (2 * t .radius) c (error t dots) (λ i. i / t .width) (λ i. i % t .width) n q
       ≡ sumTo n (λ i. kernel t i q *ℤ error t dots i)
-  unfolding kernel scattered
-  windows-filtered n q =
-      sum-cong n (λ i h. ap (λ z. error t dots i *ℤ z) (at i) ∙ *ℤ-comm (error t dots i) (kernel t i q))
-    where
-      at : (i : ℕ)
-          → gain (t .width) (2 * t .radius) (autocorrelations (t .radius) (t .psf)) (i / t .width) (i % t .width) q
-          ≡ kernel t i q
-      at i = autocorrelations-at (t .radius) (t .psf) _ _ ∙ kernel-symmetric t q i
+  unfolding scattered
+  windows-filtered dots n q =
+      sum-cong n (λ i h.
+      ap (λ z. error t dots i *ℤ z) (gain-kernel i q) ∙ *ℤ-comm (error t dots i) (kernel t i q))
 
 -- ---- the autocorrelation: a window of the psf for each of its entries, times that entry, at its mirrored place
 module _ (r : ℕ) (psf : List ℕ) where

@@ -11,11 +11,14 @@ use Rattle.model.specs.declared.Measures.{Measures}
 use Rattle.model.specs.declared.Stats.{Stats}
 use Rattle.model.specs.declared.Started.{Started}
 use Rattle.model.specs.declared.Started.the-variants as Started
+use Rattle.model.specs.declared.Attempt.{Attempt}
+use Rattle.model.specs.declared.Attempt.the-variants as Attempt
 use Rattle.model.specs.Psf.{autocorrelations}
-use Rattle.model.specs.Error.{Target, targetOf, targetFor, filteredErrors, squaredError}
+use Rattle.model.specs.Error.{Target, targetOf, targetFor, cellAt, filteredErrors, squaredError}
 use Rattle.model.specs.Refusal.{autocorrelationRefusal, halftoneRefusal, startRefusal}
 use Rattle.model.specs.Screen.{startDots}
-use Rattle.model.specs.State.{freshStats}
+use Rattle.model.specs.State.{freshStats, toggleRefusal, swapRefusal}
+use Rattle.model.specs.Reference.{toggle, swap, reference, Tried, accepted, declined, Attempted, attempt}
 
 -- what an answer says: a result, or document 01's number
 pub data Reply (A : Type 0) : Type 0 where
@@ -34,6 +37,17 @@ valued (SquaredError.Refused n) = refused n
 abbrev pub started : Started → Reply Stats
 started (Started.Fresh s) = result s
 started (Started.Refused n) = refused n
+
+abbrev pub attempted : Attempt → Reply Tried
+attempted (Attempt.Accepted s d) = result (accepted s d)
+attempted (Attempt.Declined d) = result (declined d)
+attempted (Attempt.Refused n) = refused n
+
+-- the ledger in use after an attempt: the one answered, and where it was declined or refused the one handed to it
+abbrev pub statsAfter : Stats → Reply Tried → Stats
+statsAfter s (result (accepted s′ d)) = s′
+statsAfter s (result (declined d)) = s
+statsAfter s (refused n) = s
 
 -- ---- a call: its answer, and what stands in the buffer that it is lent
 pub record Outcome (A B : Type 0) : Type 0 where
@@ -77,3 +91,33 @@ startCall m psf gray dots table =
     let begun = startDots m gray dots in
     unless (startRefusal m psf gray dots (length table)) (record { dots = dots; table = table })
     (record { reply = result (freshStats t begun); buffer = withTable t begun })
+
+-- ---- attempts
+-- what the reference, with these dots and the figures of this ledger, does
+module _ (m : Measures) (psf gray dots : List ℕ) (s : Stats) where
+  -- a toggle of the cell at (row, col)
+  abbrev pub toggled : (row col : ℕ) → Attempted
+  toggled row col = attempt (targetFor m psf gray) (reference dots s) (toggle dots (cellAt (m .width) row col))
+
+  -- a swap of the cells at (row, col) and (row′, col′)
+  abbrev pub swapped : (row col row′ col′ : ℕ) → Attempted
+  swapped row col row′ col′ =
+      attempt (targetFor m psf gray) (reference dots s)
+      (swap dots (cellAt (m .width) row col) (cellAt (m .width) row′ col′))
+
+-- unless refused with that number, the reference's answer, and its dots with their table
+unfoldable pub attemptCall : ℕ → Target → (dots : List ℕ) (table : List ℤ) → Attempted → Outcome Tried Buffers
+attemptCall number t dots table done =
+    unless number (record { dots = dots; table = table })
+    (record { reply = result (done .answer); buffer = withTable t (done .after .dots) })
+
+module _ (m : Measures) (psf gray dots : List ℕ) (table : List ℤ) (s : Stats) where
+  unfoldable pub toggleCall : (row col : ℕ) → Outcome Tried Buffers
+  toggleCall row col =
+      attemptCall (toggleRefusal m psf gray dots table s row col) (targetFor m psf gray) dots table
+      (toggled m psf gray dots s row col)
+
+  unfoldable pub swapCall : (row col row′ col′ : ℕ) → Outcome Tried Buffers
+  swapCall row col row′ col′ =
+      attemptCall (swapRefusal m psf gray dots table s row col row′ col′) (targetFor m psf gray) dots table
+      (swapped m psf gray dots s row col row′ col′)

@@ -30,6 +30,10 @@ targetFor m psf gray = targetOf (m .width) (m .height) (m .radius) psf gray
 abbrev pub errorOf : (step : ℕ) (gray dots : List ℕ) → ℕ → ℤ
 errorOf step gray dots n = pos step *ℤ pos (getD dots n 0) -ℤ pos (getD gray n 0)
 
+-- the cell at a row and a column
+abbrev pub cellAt : (width row col : ℕ) → ℕ
+cellAt width row col = row * width + col
+
 -- the largest E: 256² cells, each at most 255 × 267,386,880
 abbrev pub mostSquared : ℕ
 mostSquared = 4468483974758400

@@ -3,11 +3,14 @@
 use mathlib.Core.Path.{_≡_}
 use mathlib.Core.List.{List, [], _∷_}
 use Prim.Native.Nat.{ℕ}
-use lib.IntN.{pos, negsuc}
+use lib.IntN.{ℤ, pos, negsuc}
 use Rattle.model.specs.declared.Measures.{Measures}
+use Rattle.model.specs.declared.Stats.{Stats}
 use Rattle.model.specs.Psf.{autocorrelation}
 use Rattle.model.specs.Error.{Target, targetOf, filteredErrors, squaredError}
 use Rattle.model.specs.Screen.{thresholdAt, startDots}
+use Rattle.model.specs.Reference.{Tried, accepted, declined}
+use Rattle.model.specs.Calls.{result, Outcome, Buffers, toggleCall, swapCall}
 
 -- 1 by 1, r 0, p 1
 abbrev pub single : ℕ → Target
@@ -29,9 +32,39 @@ pair a b = targetOf 2 1 1 even (a ∷ b ∷ [])
 abbrev pub orderedPair : Measures
 orderedPair = record { width = 2; height = 1; radius = 1; reach = 1; start = 1 }
 
+-- 1 by 1, r 0; and 2 by 1, r 1, reach 1
+abbrev pub singleMeasures : Measures
+singleMeasures = record { width = 1; height = 1; radius = 0; reach = 0; start = 0 }
+
+abbrev pub pairMeasures : Measures
+pairMeasures = record { width = 2; height = 1; radius = 1; reach = 1; start = 0 }
+
+-- a ledger: E at the start and now, dots at the start, toggles on, toggles off, swaps
+abbrev pub stats : (before now : ℤ) (dots on off swaps : ℕ) → Stats
+stats before now dots on off swaps =
+    record { «start_error» = before; error = now; «start_dots» = dots; on = on; off = off; swaps = swaps }
+
+-- what an attempt answers, with the dots and the table that it leaves
+abbrev pub outcome : Tried → List ℕ → List ℤ → Outcome Tried Buffers
+outcome answer dots table = record { reply = result answer; buffer = record { dots = dots; table = table } }
+
+-- a toggle of the one cell, blank and fresh
+abbrev pub toggleSingle : (gray : ℕ) (table error : ℤ) → Outcome Tried Buffers
+toggleSingle gray table error =
+    toggleCall singleMeasures (1 ∷ []) (gray ∷ []) (0 ∷ []) (table ∷ []) (stats error error 0 0 0 0) 0 0
+
 pub record Examples : Type 0 where
   -- 1 by 1, r 0, p 1, gray 255, blank: E 65025
   pub black-blank : squaredError (single 255) (0 ∷ []) ≡ pos 65025
+  -- toggle -65025
+  pub black-toggle : toggleSingle 255 (negsuc 254) (pos 65025)
+      ≡ outcome (accepted (stats (pos 65025) (pos 0) 0 1 0 0) (negsuc 65024)) (1 ∷ []) (pos 0 ∷ [])
+  -- same, gray 128: toggle -255, accepted, E 16384 to 16129
+  pub over-half-toggle : toggleSingle 128 (negsuc 127) (pos 16384)
+      ≡ outcome (accepted (stats (pos 16384) (pos 16129) 0 1 0 0) (negsuc 254)) (1 ∷ []) (pos 127 ∷ [])
+  -- same, gray 127: +255, declined
+  pub under-half-toggle : toggleSingle 127 (negsuc 126) (pos 16129)
+      ≡ outcome (declined (pos 255)) (0 ∷ []) (negsuc 126 ∷ [])
   -- p rows `0 0 0`, `1 2 1`, `0 0 0`: c along the row 6, 4, 1 at 0, 1, 2
   pub even-at-0 : autocorrelation 1 even (pos 0) (pos 0) ≡ pos 6
   pub even-at-1 : autocorrelation 1 even (pos 0) (pos 1) ≡ pos 4
@@ -39,9 +72,23 @@ pub record Examples : Type 0 where
   -- gray 100 100, blank: T -1000 -1000, E 200000
   pub pair-blank-table : filteredErrors (pair 100 100) (0 ∷ 0 ∷ []) ≡ negsuc 999 ∷ negsuc 999 ∷ []
   pub pair-blank-error : squaredError (pair 100 100) (0 ∷ 0 ∷ []) ≡ pos 200000
+  -- toggle first: -119850, T 530 20, E 80150
+  pub pair-toggle : toggleCall pairMeasures even (100 ∷ 100 ∷ []) (0 ∷ 0 ∷ []) (negsuc 999 ∷ negsuc 999 ∷ [])
+      (stats (pos 200000) (pos 200000) 0 0 0 0) 0 0
+      ≡ outcome (accepted (stats (pos 200000) (pos 80150) 0 1 0 0) (negsuc 119849))
+      (1 ∷ 0 ∷ []) (pos 530 ∷ pos 20 ∷ [])
+  -- then swap: change 0, declined
+  pub pair-tie : swapCall pairMeasures even (100 ∷ 100 ∷ []) (1 ∷ 0 ∷ []) (pos 530 ∷ pos 20 ∷ [])
+      (stats (pos 200000) (pos 80150) 0 1 0 0) 0 0 0 1
+      ≡ outcome (declined (pos 0)) (1 ∷ 0 ∷ []) (pos 530 ∷ pos 20 ∷ [])
   -- gray 100 130, dots 1 0: T 410 -160, E 84350
   pub pair-dot-table : filteredErrors (pair 100 130) (1 ∷ 0 ∷ []) ≡ pos 410 ∷ negsuc 159 ∷ []
   pub pair-dot-error : squaredError (pair 100 130) (1 ∷ 0 ∷ []) ≡ pos 84350
+  -- swap -30600, T -100 350, E 53750
+  pub pair-swap : swapCall pairMeasures even (100 ∷ 130 ∷ []) (1 ∷ 0 ∷ []) (pos 410 ∷ negsuc 159 ∷ [])
+      (stats (pos 84350) (pos 84350) 1 0 0 0) 0 0 0 1
+      ≡ outcome (accepted (stats (pos 84350) (pos 53750) 1 0 0 1) (negsuc 30599))
+      (0 ∷ 1 ∷ []) (negsuc 99 ∷ pos 350 ∷ [])
   -- p rows `0 0 0`, `0 1 2`, `0 0 0`: c 5, and 2 at one step either way
   pub lopsided-at-0 : autocorrelation 1 lopsided (pos 0) (pos 0) ≡ pos 5
   pub lopsided-right : autocorrelation 1 lopsided (pos 0) (pos 1) ≡ pos 2

@@ -6,5 +6,7 @@ pub mod Window
 pub mod Screen
 pub mod Refusal
 pub mod State
+pub mod Reference
+pub mod Change
 pub mod Calls
 pub mod Examples

@@ -3,7 +3,7 @@
 use mathlib.Core.Bool.{Bool, true, false, _||_, _&&_, not}
 use mathlib.Core.List.{List, [], _∷_, _++_}
 use mathlib.Core.Path.{_≡_}
-use Prim.Native.Nat.{ℕ, zero, suc, _+_, _*_, _≤_}
+use Prim.Native.Nat.{ℕ, zero, suc, _+_, _*_, _-_, _≤_}
 use lib.Dec.{ltb, eqb}
 use lib.ListN.{length}
 use Rattle.model.specs.declared.Measures.{Measures}
@@ -40,6 +40,14 @@ unfoldable pub above : ℕ → List ℕ → Bool
 above k [] = false
 above k (x ∷ l) = ltb k x || above k l
 
+-- a row and a column off the plate
+abbrev pub off : (width height row col : ℕ) → Bool
+off width height row col = not (ltb row height) || not (ltb col width)
+
+-- how far apart two rows or two columns are
+abbrev pub gap : ℕ → ℕ → ℕ
+gap a b = (a - b) + (b - a)
+
 -- ---- the list, by number
 -- 1 width or height outside 1 to 256
 abbrev pub badSize : ℕ → ℕ → Refusal
@@ -73,6 +81,19 @@ badDot dots = 7 when above 1 dots
 -- 7 at a start: of kind 2 only, which takes the dots given
 abbrev pub badGiven : ℕ → List ℕ → Refusal
 badGiven kind dots = 7 when (eqb kind 2 && above 1 dots)
+
+-- 8 a named cell off the plate
+abbrev pub badCell : (width height row col : ℕ) → Refusal
+badCell width height row col = 8 when off width height row col
+
+-- 8 of a swap, which names two cells
+abbrev pub badCells : (width height row col row′ col′ : ℕ) → Refusal
+badCells width height row col row′ col′ = 8 when (off width height row col || off width height row′ col′)
+
+-- 9 swap of a cell with itself or with a row or column offset beyond the reach
+abbrev pub badPair : (reach row col row′ col′ : ℕ) → Refusal
+badPair reach row col row′ col′ =
+    9 when ((eqb row row′ && eqb col col′) || (ltb reach (gap row row′) || ltb reach (gap col col′)))
 
 -- ---- the calls, each by the parts that it is handed
 -- the autocorrelation, handed an output of that length

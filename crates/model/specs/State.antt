@@ -1,26 +1,28 @@
--- The state that calls hand on: the dots, the table and the ledger (`Stats`). A fresh ledger, and document 01's
--- refusals because of the state, 20 and 21.
+-- The state that calls hand on: the dots, the table and the ledger (`Stats`). A fresh ledger, document 01's refusals
+-- because of the state, 20 to 22, and the whole lists of the later calls, those that are handed a table and a ledger.
 use mathlib.Core.Bool.{Bool, false, _||_}
 use mathlib.Core.List.{List, [], _∷_, _++_}
 use mathlib.Core.Path.{_≡_}
 use Prim.Native.Nat.{ℕ, zero, suc, _+_, _*_, _^_, _≤_}
-use lib.Dec.{ltb}
+use lib.Dec.{ltb, eqb}
 use lib.IntN.{ℤ, pos, _+ℤ_, _-ℤ_, _*ℤ_}
 use lib.Signed.{ltZ, _≤ℤ_}
 use lib.ListN.{length, getD}
 use Rattle.model.specs.declared.Measures.{Measures}
 use Rattle.model.specs.declared.Stats.{Stats}
 use Rattle.model.specs.Psf.{total}
-use Rattle.model.specs.Error.{Target, targetFor, cells, filteredErrors, filteredError, squaredError, mostSquared}
-use Rattle.model.specs.Refusal.{Refusal, _when_, firstOf, handed, badDot}
+use Rattle.model.specs.Error.{Target, targetFor, cellAt, mostSquared, cells}
+use Rattle.model.specs.Error.{filteredErrors, filteredError, squaredError}
+use Rattle.model.specs.Refusal.{Refusal, _when_, firstOf, handed, badDot, badCell, badCells, badPair}
+use Rattle.model.specs.Refusal.{HalftoneFits}
 
 -- the dot total: the number of dots on the plate, each byte being 0 or 1
 abbrev pub dotTotal : List ℕ → ℕ
 dotTotal = total
 
 -- the accepted changes since the start
-abbrev pub accepted : Stats → ℕ
-accepted s = s .on + s .off + s .swaps
+abbrev pub changes : Stats → ℕ
+changes s = s .on + s .off + s .swaps
 
 -- ---- the tests of 20 and 21
 -- two numbers differ
@@ -36,6 +38,39 @@ someBelow (suc n) f = someBelow n f || f n
 abbrev pub some : List Bool → Bool
 some [] = false
 some (b ∷ l) = b || some l
+
+-- ---- 21, by its six conditions, against the number of cells, what a dot is worth, E of the dots and the dot total
+module _ (cells step : ℕ) (squared : ℤ) (total : ℕ) where
+  -- E now differs
+  abbrev pub wrongError : Stats → Bool
+  wrongError s = unequal (s .error) squared
+
+  -- E at the start outside 0 to its maximum
+  abbrev pub wrongStart : Stats → Bool
+  wrongStart s = some (ltZ (s .«start_error») (pos 0) ∷ ltZ (pos mostSquared) (s .«start_error») ∷ [])
+
+  -- a count above 2^44
+  abbrev pub wrongCount : Stats → Bool
+  wrongCount s = some (ltb (2 ^ 44) (s .on) ∷ ltb (2 ^ 44) (s .off) ∷ ltb (2 ^ 44) (s .swaps) ∷ [])
+
+  -- dots at the start above width × height
+  abbrev pub wrongDots : Stats → Bool
+  wrongDots s = ltb cells (s .«start_dots»)
+
+  -- the count of dots on the plate differs from dots at the start + on - off
+  abbrev pub wrongTotal : Stats → Bool
+  wrongTotal s = unequal (pos total) (pos (s .«start_dots») +ℤ pos (s .on) -ℤ pos (s .off))
+
+  -- 255 × (on + off + swaps) exceeds E at the start - E now
+  abbrev pub wrongFall : Stats → Bool
+  wrongFall s = ltZ (s .«start_error» -ℤ s .error) (pos step *ℤ pos (changes s))
+
+  -- the six together
+  abbrev pub faults : Stats → List Bool
+  faults s = wrongError s ∷ wrongStart s ∷ wrongCount s ∷ wrongDots s ∷ wrongTotal s ∷ wrongFall s ∷ []
+
+  unfoldable pub wrongStats : Stats → Refusal
+  wrongStats s = 21 when some (faults s)
 
 module _ (t : Target) (dots : List ℕ) where
   -- a fresh ledger: E at the start and now are the squared error, the dots are counted, the counts are 0
@@ -54,44 +89,41 @@ module _ (t : Target) (dots : List ℕ) where
   unfoldable pub badTable : List ℤ → Refusal
   badTable table = 20 when someBelow (cells t) (λ m. unequal (getD table m (pos 0)) (filteredError t dots m))
 
-  -- 21 ledger: E now differs
-  abbrev pub wrongError : Stats → Bool
-  wrongError s = unequal (s .error) (squaredError t dots)
+  -- 21 the ledger, against the dots
+  abbrev pub badStats : Stats → Refusal
+  badStats s = wrongStats (cells t) (t .step) (squaredError t dots) (dotTotal dots) s
 
-  -- E at the start outside 0 to its maximum
-  abbrev pub wrongStart : Stats → Bool
-  wrongStart s = some (ltZ (s .«start_error») (pos 0) ∷ ltZ (pos mostSquared) (s .«start_error») ∷ [])
+-- 22 swap attempt on equal dots
+abbrev pub badLike : List ℕ → ℕ → ℕ → Refusal
+badLike dots m n = 22 when eqb (getD dots m 0) (getD dots n 0)
 
-  -- a count above 2^44
-  abbrev pub wrongCount : Stats → Bool
-  wrongCount s = some (ltb (2 ^ 44) (s .on) ∷ ltb (2 ^ 44) (s .off) ∷ ltb (2 ^ 44) (s .swaps) ∷ [])
+-- ---- the later calls
+module _ (m : Measures) (psf gray dots : List ℕ) (table : List ℤ) (s : Stats) where
+  -- 1 to 7
+  abbrev pub inputRefusals : List Refusal
+  inputRefusals = handed m psf (length gray ∷ length dots ∷ length table ∷ []) ++ (badDot dots ∷ [])
 
-  -- dots at the start above width × height
-  abbrev pub wrongDots : Stats → Bool
-  wrongDots s = ltb (cells t) (s .«start_dots»)
+  -- 20 and 21
+  abbrev pub stateRefusals : List Refusal
+  stateRefusals = badTable (targetFor m psf gray) dots table ∷ badStats (targetFor m psf gray) dots s ∷ []
 
-  -- the count of dots on the plate differs from dots at the start + on - off
-  abbrev pub wrongTotal : Stats → Bool
-  wrongTotal s = unequal (pos (dotTotal dots)) (pos (s .«start_dots») +ℤ pos (s .on) -ℤ pos (s .off))
+  -- with those of the cells that the call names (8, 9) and of their dots (22), each in its place
+  abbrev pub later : (named alike : List Refusal) → List Refusal
+  later named alike = inputRefusals ++ (named ++ (stateRefusals ++ alike))
 
-  -- 255 × (on + off + swaps) exceeds E at the start - E now
-  abbrev pub wrongFall : Stats → Bool
-  wrongFall s = ltZ (s .«start_error» -ℤ s .error) (pos (t .step) *ℤ pos (accepted s))
+  -- a call that names no cell
+  unfoldable pub laterRefusal : ℕ
+  laterRefusal = firstOf (later [] [])
 
-  -- the six together
-  abbrev pub faults : Stats → List Bool
-  faults s = wrongError s ∷ wrongStart s ∷ wrongCount s ∷ wrongDots s ∷ wrongTotal s ∷ wrongFall s ∷ []
+  unfoldable pub toggleRefusal : (row col : ℕ) → ℕ
+  toggleRefusal row col = firstOf (later (badCell (m .width) (m .height) row col ∷ []) [])
 
-  unfoldable pub badStats : Stats → Refusal
-  badStats s = 21 when some (faults s)
-
--- 1 to 7, 20 and 21: a later call that names no cell
-unfoldable pub laterRefusal : Measures → (psf gray dots : List ℕ) (table : List ℤ) → Stats → ℕ
-laterRefusal m psf gray dots table s =
-    let t = targetFor m psf gray in
-    firstOf
-    (handed m psf (length gray ∷ length dots ∷ length table ∷ [])
-    ++ (badDot dots ∷ badTable t dots table ∷ badStats t dots s ∷ []))
+  unfoldable pub swapRefusal : (row col row′ col′ : ℕ) → ℕ
+  swapRefusal row col row′ col′ =
+      firstOf
+      (later
+      (badCells (m .width) (m .height) row col row′ col′ ∷ badPair (m .reach) row col row′ col′ ∷ [])
+      (badLike dots (cellAt (m .width) row col) (cellAt (m .width) row′ col′) ∷ []))
 
 -- the state that neither 20 nor 21 refuses
 pub record StateFits (t : Target) (dots : List ℕ) (table : List ℤ) (s : Stats) : Type 0 where
@@ -104,4 +136,11 @@ pub record StateFits (t : Target) (dots : List ℕ) (table : List ℤ) (s : Stat
   pub swaps-few : s .swaps ≤ 2 ^ 44
   pub dots-fit : s .«start_dots» ≤ cells t
   pub total-is : pos (dotTotal dots) ≡ pos (s .«start_dots») +ℤ pos (s .on) -ℤ pos (s .off)
-  pub fall : (pos (t .step) *ℤ pos (accepted s)) ≤ℤ (s .«start_error» -ℤ s .error)
+  pub fall : (pos (t .step) *ℤ pos (changes s)) ≤ℤ (s .«start_error» -ℤ s .error)
+
+-- what a later call was handed that none of 1 to 7, 20 and 21 refused
+pub record LaterFits (m : Measures) (psf gray dots : List ℕ) (table : List ℤ) (s : Stats) : Type 0 where
+  pub reach-near : m .reach ≤ 6
+  pub kind-known : m .start ≤ 2
+  pub halftone : HalftoneFits (m .width) (m .height) (m .radius) psf gray dots (length table)
+  pub state : StateFits (targetFor m psf gray) dots table s

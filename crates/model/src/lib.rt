@@ -37,3 +37,11 @@ pub enum Started {
     Fresh(Stats),
     Refused(u32),
 }
+
+// The answer of an attempt: accepted with the new ledger and the change of the squared error, declined with the change
+// that it would have been, or refused with the number of document 01.
+pub enum Attempt {
+    Accepted(Stats, i64),
+    Declined(i64),
+    Refused(u32),
+}

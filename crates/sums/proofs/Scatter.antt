@@ -1,26 +1,27 @@
 -- A loop that adds a window to a table in each turn: what a turn asks of the table and what it leaves, where the table
 -- is known by its entries; and that the two tables built so are the autocorrelation and the filtered error.
 use mathlib.Core.Path.{_≡_, sym, _∙_, ap, ap₂, subst}
-use mathlib.Core.List.{List, map}
+use mathlib.Core.List.{List, _++_, map}
 use Prim.Native.Nat.{ℕ, _+_, _*_, _≤_}
 use native.Mathlib.Nat as NatL
 use native.Mathlib.Omega.{arith}
 use lib.IntN.{ℤ, pos, natAbs, _*ℤ_}
-use lib.ListN.{length, getD, take, length-map}
+use lib.ListN.{length, getD, take, length-map, length-append}
 use lib.Seq.{length-take-le}
 use Rattle.algebra.specs.Sum.{sumTo}
 use Rattle.algebra.proofs.Order.{natAbs-mul-le, natAbs-below}
 use Rattle.algebra.proofs.Sum.{sum-cong}
 use Rattle.algebra.proofs.SumOrder.{natAbs-sum}
-use Rattle.model.specs.Basic.{tabulate, AtMost}
+use Rattle.model.specs.Basic.{tabulate, AtMost, squareAt}
 use Rattle.model.specs.Psf.{total, autocorrelations}
 use Rattle.model.specs.Error.{Target, targetOf, errorOf, kernel, error, filteredError, filteredErrors, squaredError}
 use Rattle.model.specs.Refusal.{PsfFits, HalftoneFits}
-use Rattle.model.specs.Window.{addWindow, scattered, Small, mostFiltered}
-use Rattle.model.proofs.Basic.{length-tabulate, getD-tabulate, tabulate-cong}
-use Rattle.model.proofs.Psf.{autocorrelation-nonneg, autocorrelation≤}
-use Rattle.model.proofs.Halftone.{filtered-part-most, filtered-most}
-use Rattle.model.proofs.Window.{small-tabulate, square-small, scattered-next, windows-filtered, windows-autocorrelation}
+use Rattle.model.specs.Window.{addWindow, scattered, Small, HoldsKernel, mostFiltered}
+use Rattle.model.proofs.Basic.{length-tabulate, getD-tabulate, tabulate-cong, square-append}
+use Rattle.model.proofs.Psf.{autocorrelation-nonneg, autocorrelation≤, autocorrelations-long, autocorrelations-at, side}
+use Rattle.model.proofs.Halftone.{filtered-part-most}
+use Rattle.model.proofs.Window.{small-tabulate, small-append, square-small}
+use Rattle.model.proofs.Window.{scattered-next, windows-filtered, windows-autocorrelation}
 use Rattle.sums.specs.Scatter.{mirroredAt, mirrored, laidAt, laid, Steady}
 
 pub table-long : (N : ℕ) (f : ℕ → ℤ) {t : List ℤ} → t ≡ tabulate N f → length t ≡ N
@@ -58,15 +59,20 @@ module _ (w h r : ℕ) (psf gray dots : List ℕ) where
   abbrev target : Target
   target = targetOf w h r psf gray
 
-  laid-part : (n q : ℕ)
-      → laidAt w h r (autocorrelations r psf) gray dots n q
-      ≡ sumTo n (λ i. kernel target i q *ℤ error target dots i)
-  unfolding error
-  laid-part n q = windows-filtered target dots n q
+  -- with a kernel
+  module _ (c : List ℤ) (k : HoldsKernel r psf c) where
+    laid-part : (n q : ℕ) → laidAt w h r c gray dots n q ≡ sumTo n (λ i. kernel target i q *ℤ error target dots i)
+    unfolding error
+    laid-part n q = windows-filtered target c k dots n q
 
-  pub laid-is : laid w h r (autocorrelations r psf) gray dots ≡ filteredErrors target dots
-  unfolding laid filteredErrors filteredError
-  laid-is = tabulate-cong (h * w) (λ q l. laid-part (h * w) q)
+    pub laid-is : laid w h r c gray dots ≡ filteredErrors target dots
+    unfolding laid filteredErrors filteredError
+    laid-is = tabulate-cong (h * w) (λ q l. laid-part (h * w) q)
+
+    pub laid-steady : {table : ℕ} → HalftoneFits w h r psf gray dots table → AtMost 255 gray
+        → Steady w h r c gray dots
+    laid-steady f bytes =
+        record { each = λ n q l. rw (laid-part n q) (filtered-part-most w h r psf gray dots f bytes n q l) }
 
   -- a table weighed by the errors
   pub weighed-is : length gray ≡ h * w
@@ -78,19 +84,8 @@ module _ (w h r : ℕ) (psf gray dots : List ℕ) where
       ∙ sum-cong (h * w) (λ m l.
       ap (λ z. errorOf 255 gray dots m *ℤ z) (getD-tabulate (h * w) (filteredError target dots) m (pos 0) l))
 
-  module _ {table : ℕ} (f : HalftoneFits w h r psf gray dots table) (bytes : AtMost 255 gray) where
-    pub laid-steady : Steady w h r (autocorrelations r psf) gray dots
-    laid-steady =
-        record { each = λ n q l. rw (laid-part n q) (filtered-part-most w h r psf gray dots f bytes n q l) }
-
-    pub filtered-small : Small mostFiltered (filteredErrors target dots)
-    unfolding filteredErrors
-    filtered-small =
-        small-tabulate mostFiltered (h * w) (filteredError target dots) (λ q l.
-        filtered-most w h r psf gray dots f bytes q)
-
 -- the entries of the autocorrelation
-pub kernel-small : (r : ℕ) (psf : List ℕ) → PsfFits r psf → Small 1048576 (autocorrelations r psf)
+kernel-small : (r : ℕ) (psf : List ℕ) → PsfFits r psf → Small 1048576 (autocorrelations r psf)
 unfolding autocorrelations
 kernel-small r psf f =
     small-tabulate 1048576 _ _ (λ q h.
@@ -102,3 +97,18 @@ kernel-small r psf f =
 -- ---- a part of a local array that is lent
 pub part-whole : (n : ℕ) (l : List ℤ) → n ≤ length l → n ≡ length (take n l)
 part-whole n l h = sym (length-take-le n l h)
+
+-- ---- a list with the autocorrelation in its front holds the kernel
+pub front-holds : (r : ℕ) (psf : List ℕ) (l : List ℤ) {k : List ℤ} → PsfFits r psf → k ≡ autocorrelations r psf
+    → Small 1048576 l → HoldsKernel r psf (k ++ l)
+front-holds r psf l {k} f e s =
+    record {
+      long = simp length-append (omega (arith, long));
+      small = small-append k l (subst (Small 1048576) (sym e) (kernel-small r psf f)) s;
+      at = λ dy dx.
+          square-append (pos 0) (2 * r) k l dy dx (omega (arith, long, ap (λ n. n * n) (side r)))
+          ∙ ap (λ k. squareAt (pos 0) (2 * r) k dy dx) e ∙ autocorrelations-at r psf dy dx;
+    }
+  where
+    long : length k ≡ (4 * r + 1) * (4 * r + 1)
+    long = ap length e ∙ autocorrelations-long r psf

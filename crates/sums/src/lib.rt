@@ -10,7 +10,7 @@ ghost use Rattle.model.specs.Basic.{tabulate, AtMost};
 ghost use Rattle.model.specs.Psf.{autocorrelations};
 ghost use Rattle.model.specs.Error.{errorOf, targetOf, filteredErrors, squaredError};
 ghost use Rattle.model.specs.Refusal.{PsfFits, HalftoneFits};
-ghost use Rattle.model.specs.Window.{Small, mostFiltered};
+ghost use Rattle.model.specs.Window.{Small, HoldsKernel, mostFiltered};
 ghost use Rattle.sums.specs.Scatter.{mirrored, laid, Steady};
 use window::add_window;
 
@@ -76,7 +76,7 @@ fn lay(
     table: &mut [i32],
 )
     requires { ⌜ (0 < width) × (width ≤ 256) × (height ≤ 256) × (radius ≤ 3) ⌝ }
-    requires { ⌜ (length (now c) ≡ (4 * radius + 1) * (4 * radius + 1)) × Small 1048576 (now c) ⌝ }
+    requires { ⌜ ((4 * radius + 1) * (4 * radius + 1) ≤ length (now c)) × Small 1048576 (now c) ⌝ }
     requires { ⌜ (length (now gray) ≡ height * width) × (length (now dots) ≡ height * width)
         × (length (now table) ≡ height * width) ⌝ }
     requires { ⌜ AtMost 1 (now dots) × Steady width height radius (now c) (now gray) (now dots) ⌝ }
@@ -121,6 +121,18 @@ pub fn autocorrelate(radius: usize, psf: &[u8], out: &mut [i32])
     correlate(radius, &p[..n], out);
 }
 
+// the kernel of a judged psf: its autocorrelation, in the front of 169 entries
+pub fn kernel(radius: usize, psf: &[u8]) -> [i32; 169]
+    requires { ⌜ PsfFits radius (now psf) ⌝ }
+    ensures { λ r. ⌜ HoldsKernel radius (now (psf .entry)) r ⌝ }
+{
+    let mut c = [0i32; 169];
+    let side = 4 * radius + 1;
+    let n = side * side;
+    autocorrelate(radius, psf, &mut c[..n]);
+    c
+}
+
 // the table of a judged plate
 pub fn filter(
     width: usize,
@@ -135,11 +147,8 @@ pub fn filter(
     ensures { λ _. ⌜ now (table .exit) ≡ filteredErrors
         (targetOf width height radius (now (psf .entry)) (now (gray .entry))) (now (dots .entry)) ⌝ }
 {
-    let mut c = [0i32; 169];
-    let side = 4 * radius + 1;
-    let n = side * side;
-    autocorrelate(radius, psf, &mut c[..n]);
-    lay(width, height, radius, &c[..n], gray, dots, table);
+    let c = kernel(radius, psf);
+    lay(width, height, radius, &c, gray, dots, table);
 }
 
 // the table of a judged plate, and its squared error by one pass over the table

@@ -109,6 +109,6 @@ module _ (width reach row col : ℕ) (c : List ℤ) (amount : ℤ) where
 pub index-fits : (i n j : ℕ) → i ≤ 262 → n ≤ 256 → j ≤ 262 → Fits w64 (i * n + j)
 index-fits i n j p q r = record { fits = lt-of-le-of-lt (add-le-add (mul-le-mul p q) r) (lit< tt) }
 
-pub run-ends : (i j n : ℕ) {width height long : ℕ} → i < height → j + n ≤ width → long ≡ height * width
+pub run-ends : (i j n : ℕ) {width height long : ℕ} → i < height → j + n ≤ width → height * width ≤ long
     → i * width + j + n ≤ long
 run-ends i j n {width} {height} p q e = omega (arith, rows-apart width p)

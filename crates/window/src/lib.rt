@@ -51,7 +51,7 @@ pub fn add_window(
     amount: i32,
 )
     requires { ⌜ (row < height) × (col < width) × (width ≤ 256) × (height ≤ 256) × (reach ≤ 6) ⌝ }
-    requires { ⌜ (length (now table) ≡ height * width) × (length (now c) ≡ (2 * reach + 1) * (2 * reach + 1)) ⌝ }
+    requires { ⌜ (length (now table) ≡ height * width) × ((2 * reach + 1) * (2 * reach + 1) ≤ length (now c)) ⌝ }
     requires { ⌜ Small mostFiltered (now table) ⌝ }
     requires { ⌜ Scaled mostFiltered amount (now c) ⌝ }
     ensures { λ _. ⌜ now (table .exit) ≡ addWindow width reach (now (c .entry)) amount row col (now (table .entry)) ⌝ }

@@ -1,5 +1,6 @@
 -- `sums::correlate` meets its contract: after i entries the output is what their windows come to.
 use Prim.Native.Nat.{_+_, _*_, _-_, _/_, _%_, _≤_, _<_}
+use native.Mathlib.Nat.{le-of-eq}
 use native.Mathlib.Omega.{arith}
 use mathlib.Core.Path.{_≡_, sym, _∙_, ap}
 use lib.Dec.{lit<, lit≤}
@@ -92,7 +93,7 @@ add-window-requires c κs =
     let few : i ≤ 49 = omega (arith, side-small (p .0 .0)) in (
       (omega arith, omega arith, omega arith, omega arith, omega arith),
       (
-        (table-long _ _ (b .before .loop .inv .1), p .0 .1),
+        (table-long _ _ (b .before .loop .inv .1), le-of-eq (sym (p .0 .1))),
         (
           table-small _ _ (b .before .loop .inv .1)
               (λ q. mirrored-small (s b .args .radius) (s b .args .p .now) i q (p .0 .2) few),

@@ -11,8 +11,8 @@ use Rattle.algebra.specs.Sum.{sumTo}
 use Rattle.model.specs.Error.{Target, targetOf, errorOf, filteredErrors, squaredError}
 use Rattle.model.specs.Window.{Small, mostFiltered}
 use Rattle.model.proofs.Error.{filtered-long}
-use Rattle.model.proofs.Halftone.{few-cells}
-use Rattle.sums.proofs.Scatter.{weighed-is, filtered-small}
+use Rattle.model.proofs.Halftone.{few-cells, filtered-small}
+use Rattle.sums.proofs.Scatter.{weighed-is}
 use Rattle.sums.proofs.filter_and_square.Statement.{statement}
 use Rattle.sums.proofs.filter_and_square.Tie as tie
 

@@ -1,7 +1,7 @@
 -- `sums::lay` meets its contract: after n cells the table is what their windows come to.
-use Prim.Native.Nat.{ℕ, _+_, _*_, _-_, _/_, _%_, _≤_, _<_}
+use Prim.Native.Nat.{_*_, _-_, _/_, _%_, _≤_, _<_}
 use native.Mathlib.Omega.{arith}
-use mathlib.Core.Path.{_≡_, sym, _∙_, ap}
+use mathlib.Core.Path.{_≡_, sym, _∙_, ap, subst}
 use lib.Dec.{lit<, lit≤}
 use lib.IntN.{pos}
 use lib.ListN.{length}
@@ -11,15 +11,12 @@ use Rattle.algebra.proofs.Grid.{row<, column<}
 use Rattle.algebra.proofs.Machine.{Holds, of-small, named, size-of}
 use Rattle.model.specs.Basic.{tabulate}
 use Rattle.model.specs.Error.{errorOf}
+use Rattle.model.proofs.Psf.{side}
 use Rattle.model.proofs.Window.{scaled-by, scattered-none}
 use Rattle.sums.specs.Scatter.{laidAt, laid}
 use Rattle.sums.proofs.Scatter.{table-long, table-small, table-next}
 use Rattle.sums.proofs.lay.Statement.{statement}
 use Rattle.sums.proofs.lay.Tie as tie
-
--- the side of the kernel, as a window of reach 2r has it
-side : (r : ℕ) → 4 * r + 1 ≡ 2 * (2 * r) + 1
-side r = omega arith
 
 abbrev Inv-loop : tie.InvT-loop
 Inv-loop width height radius c gray dots table₀ n₀ table n =
@@ -74,7 +71,10 @@ add-window-requires c κs =
     let inside : n < s .args .height * s .args .width = omega arith in (
       (row< n (p .0 .0) inside, column< n (p .0 .0), p .0 .1, p .0 .2, omega arith),
       (
-        (table-long _ _ (l .loop .inv .1), p .1 .0 .0 ∙ ap (λ k. k * k) (side (s .args .radius))),
+        (
+          table-long _ _ (l .loop .inv .1),
+          subst (λ k. k * k ≤ length (s .args .c .now)) (sym (side (s .args .radius))) (p .1 .0 .0),
+        ),
         (
           table-small _ _ (l .loop .inv .1) (λ q. p .1 .1 .1 .1 .each n q (omega arith)),
           scaled-by _ (s .args .c .now) (size-of (amount (c .before))) (p .1 .0 .1) (lit≤ tt),

@@ -1,7 +1,8 @@
 -- `window::add_window` meets its contract. The loop's invariant: the window is added to the rows above y. The measure
 -- is what is left of the rows.
-use mathlib.Core.Path.{_∙_}
+use mathlib.Core.Path.{sym, _∙_}
 use Prim.Native.Nat.{_-_, _≤_}
+use native.Mathlib.Nat.{le-of-eq}
 use native.Mathlib.Omega.{arith}
 use borrow.Author.Needs.{needs}
 use mir.Syntax.{w32}
@@ -72,7 +73,7 @@ add-run-requires c κs =
     let s = c .before .before .before .before .before .before .before in
     let r = c .before .before .loop .inv .1 in (
       (
-        run-ends _ _ _ (omega arith) (omega arith) (r .long ∙ s .pre .1 .0 .0),
+        run-ends _ _ _ (omega arith) (omega arith) (le-of-eq (sym (r .long ∙ s .pre .1 .0 .0))),
         run-ends _ _ _ (omega arith) (omega arith) (s .pre .1 .0 .1),
       ),
       (λ q k. rw (r .rest q (omega arith)) (s .pre .1 .1 .0 .each q), rw (toZ-ofZ (s .fits .amount)) (s .pre .1 .1 .1)),

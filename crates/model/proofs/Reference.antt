@@ -1,0 +1,172 @@
+-- Laws of the reference's changes. A legal change sets cells of the plate to 0 or 1 and keeps the dot total in step
+-- with the counts; toggles, and swaps of unlike dots, are legal. Where one lowers E and is accepted, the state fits
+-- again.
+use mathlib.Core.Path.{_≡_, refl, sym, _∙_, ap, subst}
+use mathlib.Core.List.{List, [], _∷_}
+use Prim.Native.Nat.{ℕ, zero, suc, _+_, _*_, _-_, _^_, _≤_, _<_}
+use native.Mathlib.Nat.{not-suc-le-zero, mul-le-mul-right}
+use native.Mathlib.Decide.{ℕ-discrete}
+use native.Mathlib.Omega.{arith}
+use lib.Dec.{eqb}
+use lib.IntN.{ℤ, pos, negℤ, _+ℤ_, _-ℤ_, _*ℤ_}
+use lib.Signed.{_≤ℤ_, _<ℤ_}
+use lib.ListN.{length, getD, set, length-set}
+use lib.Seq.{getD-set-same, getD-set-other}
+use Rattle.algebra.proofs.Solver.{reify}
+use Rattle.algebra.proofs.Order.{ordℤ, read≤, show≤, read≡, show≡}
+use Rattle.model.specs.declared.Stats.{Stats}
+use Rattle.model.specs.Basic.{pick, AtMost}
+use Rattle.model.specs.Psf.{total}
+use Rattle.model.specs.Error.{Target, cells, filteredErrors, squaredError, mostSquared}
+use Rattle.model.specs.State.{dotTotal, changes, StateFits}
+use Rattle.model.specs.Reference.{Count, onCount, offCount, swapCount, ofOn, ofOff, ofSwaps}
+use Rattle.model.specs.Reference.{Setting, Move, made, toggle, swap, reference, accept, statsOf, change}
+use Rattle.model.proofs.Error.{squared-nonneg}
+use Rattle.model.proofs.Change.{Placed, change-least}
+
+-- ---- one store
+total-set : (dots : List ℕ) (m x : ℕ) → m < length dots → total (set dots m x) + getD dots m 0 ≡ total dots + x
+unfolding total
+total-set [] m x h = absurd (not-suc-le-zero h)
+total-set (d ∷ dots) zero x h = omega arith
+total-set (d ∷ dots) (suc m) x h = omega (arith, total-set dots m x (omega arith))
+
+pub bits-set : (dots : List ℕ) (m x : ℕ) → m < length dots → x ≤ 1 → AtMost 1 dots → AtMost 1 (set dots m x)
+bits-set dots m x h k bits = record { each = λ n. go n (ℕ-discrete n m) }
+  where
+    go : (n : ℕ) → Dec (n ≡ m) → getD (set dots m x) n 0 ≤ 1
+    go n (yes e) = rw (e, getD-set-same dots m x 0 h) k
+    go n (no e) = rw (getD-set-other dots m n x 0 e) (bits .each n)
+
+-- ---- a legal change
+-- every byte of the list is 0 or 1
+abbrev Bits : List Setting → Type 0
+Bits [] = Unit {0}
+Bits (x ∷ l) = (x .byte ≤ 1) × Bits l
+
+pub record Legal (N : ℕ) (dots : List ℕ) (v : Move) : Type 0 where
+  pub placed : Placed N (v .sets)
+  pub bits : Bits (v .sets)
+  pub balance : dotTotal (made dots (v .sets)) + ofOff (v .raises) ≡ dotTotal dots + ofOn (v .raises)
+
+pub made-long : (dots : List ℕ) (l : List Setting) → length (made dots l) ≡ length dots
+unfolding made
+made-long dots [] = refl
+made-long dots (x ∷ l) = made-long (set dots (x .cell) (x .byte)) l ∙ length-set dots (x .cell) (x .byte)
+
+pub made-bits : (dots : List ℕ) (l : List Setting) → Placed (length dots) l → Bits l → AtMost 1 dots
+    → AtMost 1 (made dots l)
+unfolding made
+made-bits dots [] h k bits = bits
+made-bits dots (x ∷ l) h k bits =
+    made-bits (set dots (x .cell) (x .byte)) l (rw (length-set dots (x .cell) (x .byte)) (h .1)) (k .1)
+    (bits-set dots (x .cell) (x .byte) (h .0) (k .0) bits)
+
+module _ (dots : List ℕ) (bits : AtMost 1 dots) where
+  pub toggle-legal : (m : ℕ) → m < length dots → Legal (length dots) dots (toggle dots m)
+  unfolding toggle made
+  toggle-legal m h = go (getD dots m 0) (bits .each m) (λ x. total-set dots m x h)
+    where
+      go : (x : ℕ) → x ≤ 1 → ((y : ℕ) → total (set dots m y) + x ≡ total dots + y)
+          → Legal (length dots) dots
+          (pick (eqb x 0)
+          (record { raises = onCount; sets = record { cell = m; byte = 1 } ∷ [] })
+          (record { raises = offCount; sets = record { cell = m; byte = 0 } ∷ [] }))
+      go zero k e = record { placed = (h, tt); bits = (omega arith, tt); balance = e 1 }
+      go (suc zero) k e = record { placed = (h, tt); bits = (omega arith, tt); balance = e 0 }
+      go (suc (suc x)) k e = absurd (no x k)
+        where
+          no : (n : ℕ) → suc (suc n) ≤ 1 → ⊥
+          no n h = omega arith
+
+  pub swap-legal : (m n : ℕ) → m < length dots → n < length dots → (getD dots m 0 ≡ getD dots n 0 → ⊥)
+      → Legal (length dots) dots (swap dots m n)
+  unfolding swap made
+  swap-legal m n h k unlike =
+      let x : ℕ = getD dots m 0 in
+      let y : ℕ = getD dots n 0 in
+      record {
+        placed = (h, (k, tt));
+        bits = (bits .each n, (bits .each m, tt));
+        balance =
+            omega (
+              arith,
+              total-set (set dots m y) n x (rw (length-set dots m y) k),
+              getD-set-other dots m n y 0 (λ e. unlike (ap (λ k. getD dots k 0) (sym e))),
+              total-set dots m y h,
+            );
+      }
+
+-- ---- an accepted change: exactly one count rises by 1
+counts : (k : Count) (a b c : ℕ) → a + ofOn k + (b + ofOff k) + (c + ofSwaps k) ≡ suc (a + b + c)
+counts onCount a b c = omega arith
+counts offCount a b c = omega arith
+counts swapCount a b c = omega arith
+
+-- E falls by the step at least, so the fall stays above the step times the accepted changes
+falls : (u n : ℕ) (z e f : ℤ) → (pos u *ℤ pos n) ≤ℤ (z -ℤ e) → (f -ℤ e) ≤ℤ negℤ (pos u)
+    → (pos u *ℤ pos (suc n)) ≤ℤ (z -ℤ f)
+falls u n z e f h k = rw size (go (pos u *ℤ pos n) (pos u) h k)
+  where
+    size : pos u *ℤ pos (suc n) ≡ pos u *ℤ pos n +ℤ pos u
+    size = ap pos (omega arith)
+
+    go : (x u : ℤ) → x ≤ℤ (z -ℤ e) → (f -ℤ e) ≤ℤ negℤ u → (x +ℤ u) ≤ℤ (z -ℤ f)
+    go x u h k =
+        let ρ : List ℤ = z ∷ e ∷ f ∷ x ∷ u ∷ [] in
+        show≤ ρ (search reify depth 40)
+        (omega (arith, read≤ ρ (search reify depth 40) h, read≤ ρ (search reify depth 40) k))
+
+-- and since E is never negative, they are few
+few : (u n : ℕ) (z f : ℤ) → 255 ≤ u → z ≤ℤ pos mostSquared → pos 0 ≤ℤ f → (pos u *ℤ pos n) ≤ℤ (z -ℤ f) → n ≤ 2 ^ 44
+few u n z f h k l m =
+    let ρ : List ℤ = z ∷ f ∷ pos (u * n) ∷ [] in
+    omega (arith, ordℤ, mul-le-mul-right n h, read≤ ρ (search reify depth 40) m)
+
+module _ (t : Target) (wide : 0 < t .width) (step : 255 ≤ t .step) (dots : List ℕ) (long : length dots ≡ cells t)
+    (table : List ℤ) (s : Stats) (fits : StateFits t dots table s) where
+  pub accept-fits : (v : Move) → Legal (cells t) dots v → change t dots v <ℤ pos 0
+      → (let p = accept (reference dots s) v in StateFits t (p .dots) (filteredErrors t (p .dots)) (statsOf t p))
+  unfolding accept statsOf change
+  accept-fits v legal lower =
+      record {
+        table-is = refl;
+        error-is = refl;
+        start-low = fits .start-low;
+        start-high = fits .start-high;
+        on-few = omega (arith, rise, enough);
+        off-few = omega (arith, rise, enough);
+        swaps-few = omega (arith, rise, enough);
+        dots-fit = fits .dots-fit;
+        total-is = balanced;
+        fall = rw rise fall;
+      }
+    where
+      k : Count
+      k = v .raises
+
+      after : ℤ
+      after = squaredError t (made dots (v .sets))
+
+      rise : s .on + ofOn (v .raises) + (s .off + ofOff (v .raises)) + (s .swaps + ofSwaps (v .raises))
+          ≡ suc (changes s)
+      rise = counts (v .raises) (s .on) (s .off) (s .swaps)
+
+      fall : (pos (t .step) *ℤ pos (suc (changes s))) ≤ℤ (s .«start_error» -ℤ squaredError t (made dots (v .sets)))
+      fall =
+          falls (t .step) (changes s) (s .«start_error») (squaredError t dots) after
+          (subst (λ z. (pos (t .step) *ℤ pos (changes s)) ≤ℤ (s .«start_error» -ℤ z)) (fits .error-is) (fits .fall))
+          (change-least t dots v long (legal .placed) lower)
+
+      enough : suc (changes s) ≤ 2 ^ 44
+      enough =
+          few (t .step) (suc (changes s)) (s .«start_error») after step (fits .start-high)
+          (squared-nonneg t wide (made dots (v .sets))) fall
+
+      balanced : pos (dotTotal (made dots (v .sets)))
+          ≡ pos (s .«start_dots») +ℤ pos (s .on + ofOn (v .raises)) -ℤ pos (s .off + ofOff (v .raises))
+      balanced =
+          let ρ : List ℤ = pos (dotTotal dots) ∷ pos (s .«start_dots») ∷ pos (s .on) ∷ pos (s .off) ∷ [] in
+          show≡ (pos (dotTotal (made dots (v .sets))) ∷ pos (s .«start_dots») ∷ pos (s .on + ofOn (v .raises))
+          ∷ pos (s .off + ofOff (v .raises)) ∷ []) (search reify depth 40)
+          (omega (arith, legal .balance, read≡ ρ (search reify depth 40) (fits .total-is)))

@@ -1,0 +1,53 @@
+-- One change, by document 01's formulas: what a toggle and a swap add to E, from T at the cells, the peak P and c, and
+-- the ledger on acceptance. That each sum is E of the changed copy less E before is a law (`toggle-change`,
+-- `swap-change` of proofs/Change.antt), for every step u in place of 255.
+use mathlib.Core.List.{List}
+use Prim.Native.Nat.{ℕ, _+_, _*_}
+use lib.Dec.{eqb}
+use lib.IntN.{ℤ, pos, negsuc, _+ℤ_, _-ℤ_, _*ℤ_}
+use lib.ListN.{getD}
+use Rattle.model.specs.declared.Stats.{Stats}
+use Rattle.model.specs.Basic.{pick}
+use Rattle.model.specs.Psf.{peak}
+use Rattle.model.specs.Error.{Target, kernel, filteredError}
+use Rattle.model.specs.Reference.{Count, ofOn, ofOff, ofSwaps}
+
+-- s(m): +1 at a blank, -1 at a dot
+abbrev pub sign : List ℕ → ℕ → ℤ
+sign dots m = pick (eqb (getD dots m 0) 0) (pos 1) (negsuc 0)
+
+-- a toggle: u × (2 × s(m) × T(m) + u × P)
+unfoldable pub toggleSum : (u : ℕ) (P s Tm : ℤ) → ℤ
+toggleSum u P s Tm = pos u *ℤ (pos 2 *ℤ s *ℤ Tm +ℤ pos u *ℤ P)
+
+-- a swap: 2u × (s(m) × (T(m) - T(n)) + u × (P - c(m - n)))
+unfoldable pub swapSum : (u : ℕ) (P c s Tm Tn : ℤ) → ℤ
+swapSum u P c s Tm Tn = pos (2 * u) *ℤ (s *ℤ (Tm -ℤ Tn) +ℤ pos u *ℤ (P -ℤ c))
+
+module _ (t : Target) (dots : List ℕ) where
+  -- a toggle at m
+  abbrev pub toggleChange : (m : ℕ) → ℤ
+  toggleChange m = toggleSum (t .step) (peak (t .radius) (t .psf)) (sign dots m) (filteredError t dots m)
+
+  -- a swap of m and n, whose dots differ
+  abbrev pub swapChange : (m n : ℕ) → ℤ
+  swapChange m n =
+      swapSum (t .step) (peak (t .radius) (t .psf)) (kernel t m n) (sign dots m)
+      (filteredError t dots m) (filteredError t dots n)
+
+-- ---- the ledger on acceptance
+-- E now gains the change, and each count rises by so many
+abbrev pub raised : Stats → (change : ℤ) (on off swaps : ℕ) → Stats
+raised s change on off swaps =
+    record {
+      «start_error» = s .«start_error»;
+      error = s .error +ℤ change;
+      «start_dots» = s .«start_dots»;
+      on = s .on + on;
+      off = s .off + off;
+      swaps = s .swaps + swaps;
+    }
+
+-- the one matching count by 1
+unfoldable pub counted : Stats → (change : ℤ) → Count → Stats
+counted s change k = raised s change (ofOn k) (ofOff k) (ofSwaps k)

@@ -1,0 +1,134 @@
+-- The reference (01: the plain plate), which has no table: whenever E is wanted, it takes the sum over its dots. An
+-- attempt makes its change on a copy of the dots, and the copy replaces them where its E is lower.
+use mathlib.Core.Bool.{Bool}
+use mathlib.Core.List.{List, [], _∷_}
+use Prim.Native.Nat.{ℕ, _+_}
+use lib.Dec.{eqb}
+use lib.IntN.{ℤ, pos, _-ℤ_}
+use lib.Signed.{ltZ}
+use lib.ListN.{getD, set}
+use Rattle.model.specs.declared.Stats.{Stats}
+use Rattle.model.specs.Basic.{pick}
+use Rattle.model.specs.Error.{Target, squaredError}
+
+-- ---- a change: the count that it raises, and the cells that it sets with their new bytes
+-- toggles on, toggles off, swaps
+pub data Count : Type 0 where
+  onCount : Count
+  offCount : Count
+  swapCount : Count
+
+pub record Setting : Type 0 where
+  pub cell : ℕ
+  pub byte : ℕ
+
+pub record Move : Type 0 where
+  pub raises : Count
+  pub sets : List Setting
+
+-- the copy of the dots on which it is made
+unfoldable pub made : List ℕ → List Setting → List ℕ
+made dots [] = dots
+made dots (x ∷ l) = made (set dots (x .cell) (x .byte)) l
+
+-- a toggle at m: a blank gets a dot, a dot is taken
+unfoldable pub toggle : List ℕ → ℕ → Move
+toggle dots m =
+    pick (eqb (getD dots m 0) 0)
+    (record { raises = onCount; sets = record { cell = m; byte = 1 } ∷ [] })
+    (record { raises = offCount; sets = record { cell = m; byte = 0 } ∷ [] })
+
+-- a swap of m and n: each gets the other's byte
+unfoldable pub swap : List ℕ → ℕ → ℕ → Move
+swap dots m n =
+    record {
+      raises = swapCount;
+      sets = record { cell = m; byte = getD dots n 0 } ∷ record { cell = n; byte = getD dots m 0 } ∷ [];
+    }
+
+-- ---- what it holds
+pub record Reference : Type 0 where
+  pub dots : List ℕ
+  pub start-error : ℤ
+  pub start-dots : ℕ
+  pub on : ℕ
+  pub off : ℕ
+  pub swaps : ℕ
+
+-- the reference with these dots and the figures of this ledger
+abbrev pub reference : List ℕ → Stats → Reference
+reference dots s =
+    record {
+      dots = dots;
+      start-error = s .«start_error»;
+      start-dots = s .«start_dots»;
+      on = s .on;
+      off = s .off;
+      swaps = s .swaps;
+    }
+
+-- what a change adds to each count: the one matching count rises by 1
+abbrev pub ofOn : Count → ℕ
+ofOn onCount = 1
+ofOn offCount = 0
+ofOn swapCount = 0
+
+abbrev pub ofOff : Count → ℕ
+ofOff onCount = 0
+ofOff offCount = 1
+ofOff swapCount = 0
+
+abbrev pub ofSwaps : Count → ℕ
+ofSwaps onCount = 0
+ofSwaps offCount = 0
+ofSwaps swapCount = 1
+
+-- the copy replaces the dots, and the one matching count rises by 1
+unfoldable pub accept : Reference → Move → Reference
+accept p v =
+    record {
+      dots = made (p .dots) (v .sets);
+      start-error = p .start-error;
+      start-dots = p .start-dots;
+      on = p .on + ofOn (v .raises);
+      off = p .off + ofOff (v .raises);
+      swaps = p .swaps + ofSwaps (v .raises);
+    }
+
+-- ---- an attempt
+-- its answer, where it is not refused: accepted with the new ledger and the change, or declined with the change
+pub data Tried : Type 0 where
+  accepted : Stats → ℤ → Tried
+  declined : ℤ → Tried
+
+-- and the reference after it
+pub record Attempted : Type 0 where
+  pub answer : Tried
+  pub after : Reference
+
+module _ (t : Target) where
+  -- a ledger holds the figures, E now being the sum
+  unfoldable pub statsOf : Reference → Stats
+  statsOf p =
+      record {
+        «start_error» = p .start-error;
+        error = squaredError t (p .dots);
+        «start_dots» = p .start-dots;
+        on = p .on;
+        off = p .off;
+        swaps = p .swaps;
+      }
+
+  -- the copy's E less the E before
+  unfoldable pub change : List ℕ → Move → ℤ
+  change dots v = squaredError t (made dots (v .sets)) -ℤ squaredError t dots
+
+  -- the copy's E is lower
+  abbrev pub lowers : List ℕ → Move → Bool
+  lowers dots v = ltZ (change dots v) (pos 0)
+
+  unfoldable pub attempt : Reference → Move → Attempted
+  attempt p v =
+      pick (lowers (p .dots) v)
+      (record { answer = accepted (statsOf (accept p v)) (change (p .dots) v); after = accept p v })
+      (record { answer = declined (change (p .dots) v); after = p })
