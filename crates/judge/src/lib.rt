@@ -1,11 +1,12 @@
 // Judging what a call is handed: each function answers the number of the first refusal that is drawn, 0 for none.
-ghost use mathlib.Core.List.{[], _∷_};
+ghost use mathlib.Core.List.{[], _∷_, _++_};
 ghost use mathlib.Core.Path.{_≡_};
 ghost use Prim.Native.Nat.{_≤_};
 ghost use lib.ListN.{length};
 ghost use Rattle.model.specs.Psf.{total};
 ghost use Rattle.model.specs.Refusal.{firstOf, either, above, badSize, badRadius, badReach, badKind, badLength, badSum};
-ghost use Rattle.model.specs.Refusal.{badDot, badGiven, handed, autocorrelationRefusal, halftoneRefusal, startRefusal};
+ghost use Rattle.model.specs.Refusal.{badDot, badGiven, handed};
+ghost use Rattle.model.specs.Refusal.{autocorrelationRefusal, halftoneRefusal, startRefusal};
 use model::Measures;
 
 // the sum of bytes, at most as many as the cells of the largest plate
@@ -152,6 +153,19 @@ pub fn judge_handed(measures: Measures, psf: &[u8], gray: usize, dots: usize, ta
         dots,
         table,
     )
+}
+
+// 1 to 7, of a call that is handed a table of that length and a ledger
+pub fn judge_later(measures: Measures, psf: &[u8], gray: usize, dots: &[u8], table: usize) -> u32
+    ensures { λ r. ⌜ r ≡ firstOf
+        (handed measures (now (psf .entry)) (gray ∷ length (now (dots .entry)) ∷ table ∷ [])
+        ++ (badDot (now (dots .entry)) ∷ [])) ⌝ }
+{
+    let input = judge_handed(measures, psf, gray, dots.len(), table);
+    if input != 0 {
+        return input;
+    }
+    judge_dots(dots)
 }
 
 // the whole list of the filtered error, handed a table of that length

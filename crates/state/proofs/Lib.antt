@@ -1,0 +1,2 @@
+-- What the proofs of the judges of the state rest on.
+pub mod Laws
