@@ -1,6 +1,6 @@
 // Starts of each kind, and input that each refusal number of a start is drawn for.
 use crate::EVEN;
-use crate::show::start;
+use crate::calls::start;
 use model::Measures;
 
 // a plate of 2 by 1 with a psf of radius 1

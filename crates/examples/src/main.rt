@@ -1,11 +1,11 @@
 // Runs the public calls on the examples of document 01 and on input that each refusal number is drawn for, and prints
 // the answers, with what every lent buffer holds afterwards. The file stdout beside src/ is what must be printed.
+mod calls;
 mod kinds;
-mod show;
 
-use show::autocorrelation;
-use show::filtered_error;
-use show::squared_error;
+use calls::autocorrelation;
+use calls::filtered_error;
+use calls::squared_error;
 
 const EVEN: [u8; 9] = [0, 0, 0, 1, 2, 1, 0, 0, 0];
 

@@ -1,10 +1,10 @@
--- `examples::show::print_entry` meets its contract: a number of 32 bits fits 64.
+-- `show::print_entry` meets its contract: a number of 32 bits fits 64.
 use borrow.Author.Needs.{needs}
 use native.Mathlib.Omega.{arith}
 use mir.Syntax.{w32}
 use Rattle.algebra.proofs.Machine.{read-back}
-use Rattle.examples.proofs.show.print_entry.Statement.{statement}
-use Rattle.examples.proofs.show.print_entry.Tie as tie
+use Rattle.show.proofs.print_entry.Statement.{statement}
+use Rattle.show.proofs.print_entry.Tie as tie
 
 slice-aggregate-print : tie.Need-slice-aggregate-print
 slice-aggregate-print c = search needs

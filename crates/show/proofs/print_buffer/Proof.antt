@@ -1,9 +1,9 @@
--- `examples::show::print_buffer` meets its contract: the index stays within the buffer.
+-- `show::print_buffer` meets its contract: the index stays within the buffer.
 use borrow.Author.Needs.{needs}
 use Prim.Native.Nat.{_≤_, _-_}
 use lib.ListN.{length}
-use Rattle.examples.proofs.show.print_buffer.Statement.{statement}
-use Rattle.examples.proofs.show.print_buffer.Tie as tie
+use Rattle.show.proofs.print_buffer.Statement.{statement}
+use Rattle.show.proofs.print_buffer.Tie as tie
 
 abbrev Inv-loop : tie.InvT-loop
 Inv-loop buffer i₀ i = i ≤ length buffer

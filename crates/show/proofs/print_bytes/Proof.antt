@@ -1,9 +1,9 @@
--- `examples::show::print_bytes` meets its contract: the index stays within the bytes.
+-- `show::print_bytes` meets its contract: the index stays within the bytes.
 use borrow.Author.Needs.{needs}
 use Prim.Native.Nat.{_≤_, _-_}
 use lib.ListN.{length}
-use Rattle.examples.proofs.show.print_bytes.Statement.{statement}
-use Rattle.examples.proofs.show.print_bytes.Tie as tie
+use Rattle.show.proofs.print_bytes.Statement.{statement}
+use Rattle.show.proofs.print_bytes.Tie as tie
 
 abbrev Inv-loop : tie.InvT-loop
 Inv-loop bytes i₀ i = i ≤ length bytes

@@ -1,4 +1,4 @@
--- `examples::show::magnitude` meets its contract: of a number below 0 the next one up is turned, which fits, and 1 is
+-- `show::magnitude` meets its contract: of a number below 0 the next one up is turned, which fits, and 1 is
 -- added.
 use borrow.Author.Needs.{needs}
 use mathlib.Core.Path.{_≡_, refl, _∙_, ap}
@@ -17,8 +17,8 @@ use mir.Facts.{toZ-ofZ}
 use Rattle.algebra.proofs.Solver.{ring!, reify}
 use Rattle.algebra.proofs.Order.{show≡, natAbs-negℤ}
 use Rattle.algebra.proofs.Machine.{fits-small, read-back}
-use Rattle.examples.proofs.show.magnitude.Statement.{statement}
-use Rattle.examples.proofs.show.magnitude.Tie as tie
+use Rattle.show.proofs.magnitude.Statement.{statement}
+use Rattle.show.proofs.magnitude.Tie as tie
 
 -- the operations on a number v below 0, and what they come to
 record Turned (v : ℤ) : Type 0 where
