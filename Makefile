@@ -1,11 +1,13 @@
 # The two commands of the README.
 .PHONY: example test
 
-# builds the program of examples, its proofs first, and runs it
+# builds the programs of examples, their proofs first, and runs them
 example:
 	@mkdir -p target
 	@rt check examples >target/example.log 2>&1 || { cat target/example.log; exit 1; }
+	@rt check attempts >target/example.log 2>&1 || { cat target/example.log; exit 1; }
 	@target/bin/examples
+	@target/bin/attempts
 
 # every test there is; the last line is 'N passed, M failed'
 test:
