@@ -1,12 +1,10 @@
 -- Laws of one change. Storing a byte adds to the error at one cell, so the law of an edit says what any list of stores
 -- does to E and to the table; document 01's formulas for a toggle and a swap are the cases of one cell and of two.
 use mathlib.Core.Path.{_≡_, refl, sym, _∙_, ap, ap₂, subst}
-use mathlib.Core.Bool.{Bool, true, false}
 use mathlib.Core.List.{List, [], _∷_}
-use Prim.Native.Nat.{ℕ, zero, suc, _+_, _*_, _-_, _/_, _%_, _≤_, _<_}
+use Prim.Native.Nat.{ℕ, _+_, _*_, _-_, _/_, _%_, _≤_, _<_}
 use native.Mathlib.Decide.{ℕ-discrete}
 use native.Mathlib.Omega.{arith}
-use lib.Dec.{eqb}
 use lib.IntN.{ℤ, pos, negsuc, negℤ, _+ℤ_, _-ℤ_, _*ℤ_, +ℤ-idr, +ℤ-invr}
 use lib.Signed.{_≤ℤ_, _<ℤ_, clashℤ}
 use lib.ListN.{length, getD, set, length-set}
@@ -16,16 +14,17 @@ use Rattle.algebra.specs.Quadratic.{Increment, Within, point, gained, edited}
 use Rattle.algebra.proofs.Solver.{ring!, reify}
 use Rattle.algebra.proofs.Order.{ordℤ, show≤, 0≤-mul}
 use Rattle.algebra.proofs.Sum.{point-same, point-other, sumOver-cong, sumOver-scale}
-use Rattle.model.specs.Basic.{pick, AtMost}
+use Rattle.model.specs.Basic.{AtMost}
 use Rattle.model.specs.Psf.{autocorrelation, peak}
 use Rattle.model.specs.Error.{Target, cells, row, column, kernel, error}
 use Rattle.model.specs.Error.{filteredError, filteredErrors, squaredError}
 use Rattle.model.specs.Window.{addWindow, HoldsKernel}
 use Rattle.model.specs.Change.{sign, toggleSum, swapSum, toggleChange, swapChange}
-use Rattle.model.specs.Reference.{onCount, offCount, Setting, Move, made, toggle, swap, change}
+use Rattle.model.specs.Reference.{Setting, Move, made, toggle, swap, change}
 use Rattle.model.proofs.Basic.{tabulate-cong}
 use Rattle.model.proofs.Error.{kernel-symmetric, filtered-edit, squared-edit}
 use Rattle.model.proofs.Window.{addWindow-tabulate, gain-kernel}
+use Rattle.model.proofs.Turn.{turns, flipped, sign-is, sign-square, turned-other, toggle-sets, swap-sets}
 
 -- ---- stores as an edit
 -- every cell of the list is below N
@@ -78,30 +77,6 @@ crosswise-times u l C =
     ap (λ z. c .amount *ℤ z) (sum-times u l (λ n. C n (c .cell)))
     ∙ ring! (u ∷ c .amount ∷ sumOver l (λ d. d .amount *ℤ C (d .cell) (c .cell)) ∷ []) (search reify depth 40) refl)
     ∙ sumOver-scale l u (λ c. c .amount *ℤ sumOver l (λ d. d .amount *ℤ C (d .cell) (c .cell))))
-
--- the store that turns the dot of m
-abbrev turns : List ℕ → ℕ → Setting
-turns dots m = record { cell = m; byte = 1 - getD dots m 0 }
-
--- the dots with that of m turned
-abbrev pub flipped : List ℕ → ℕ → List ℕ
-flipped dots m = set dots m (1 - getD dots m 0)
-
--- the count that a toggle raises
-pub toggle-raises : (dots : List ℕ) (m : ℕ) → toggle dots m .raises ≡ pick (eqb (getD dots m 0) 0) onCount offCount
-unfolding toggle
-toggle-raises dots m = go (eqb (getD dots m 0) 0)
-  where
-    go : (b : Bool)
-        → pick {A = Move} b (record { raises = onCount; sets = record { cell = m; byte = 1 } ∷ [] })
-        (record { raises = offCount; sets = record { cell = m; byte = 0 } ∷ [] }) .raises
-        ≡ pick b onCount offCount
-    go true = refl
-    go false = refl
-
--- a byte that is 0 or 1 is not 2 or more
-two : (n : ℕ) → suc (suc n) ≤ 1 → ⊥
-two n h = omega arith
 
 module _ (t : Target) where
   -- one store
@@ -208,146 +183,90 @@ module _ (t : Target) where
   unfolding kernel
   kernel-peak m = ap₂ (autocorrelation (t .radius) (t .psf)) (+ℤ-invr (row t m)) (+ℤ-invr (column t m))
 
-  -- ---- turning dots, each byte being 0 or 1
-  module _ (dots : List ℕ) (bits : AtMost 1 dots) where
-    -- what the other byte adds is s(m)
-    other : (x : ℕ) → x ≤ 1 → pos (1 - x) -ℤ pos x ≡ pick (eqb x 0) (pos 1) (negsuc 0)
-    other zero h = refl
-    other (suc zero) h = refl
-    other (suc (suc x)) h = absurd (two x h)
-
-    sign-is : (m : ℕ) → pos (1 - getD dots m 0) -ℤ pos (getD dots m 0) ≡ sign dots m
-    sign-is m = other (getD dots m 0) (bits .each m)
-
-    sign-square : (m : ℕ) → sign dots m *ℤ sign dots m ≡ pos 1
-    sign-square m = go (eqb (getD dots m 0) 0)
+  -- ---- document 01's formulas are the differences of the sums
+  module _ (dots : List ℕ) (bits : AtMost 1 dots) (long : length dots ≡ cells t) where
+    pub toggle-change : (m : ℕ) → m < cells t → change t dots (toggle dots m) ≡ toggleChange t dots m
+    unfolding toggleSum crosswise sumOver
+    toggle-change m h =
+        change-is dots (toggle dots m) long (subst (Placed (cells t)) (sym (toggle-sets dots bits m)) (h, tt))
+        ∙ ap (λ l. u *ℤ inner dots (units dots l)) (toggle-sets dots bits m)
+        ∙ ap (λ z. u *ℤ inner dots (record { cell = m; amount = z } ∷ [])) (sign-is dots bits m)
+        ∙ ap (λ z. u *ℤ z) (turn (sign dots m) (filteredError t dots m) (kernel t m m))
+        ∙ ap₂ (λ a b. u *ℤ (pos 2 *ℤ sign dots m *ℤ filteredError t dots m +ℤ u *ℤ (a *ℤ b)))
+        (sign-square dots m) (kernel-peak m)
+        ∙ ap (λ z. u *ℤ (pos 2 *ℤ sign dots m *ℤ filteredError t dots m +ℤ u *ℤ z)) (one (peak (t .radius) (t .psf)))
       where
-        go : (b : Bool) → pick b (pos 1) (negsuc 0) *ℤ pick b (pos 1) (negsuc 0) ≡ pos 1
-        go true = refl
-        go false = refl
+        u : ℤ
+        u = pos (t .step)
 
-    -- turning one dot leaves the others
-    turned-other : (m n : ℕ) → (n ≡ m → ⊥) → getD (flipped dots m) n 0 ≡ getD dots n 0
-    turned-other m n apart = getD-set-other dots m n (1 - getD dots m 0) 0 apart
+        turn : (s T c : ℤ)
+            → pos 2 *ℤ (s *ℤ T +ℤ pos 0) +ℤ u *ℤ (s *ℤ (s *ℤ c +ℤ pos 0) +ℤ pos 0)
+            ≡ pos 2 *ℤ s *ℤ T +ℤ u *ℤ (s *ℤ s *ℤ c)
+        turn s T c = ring! (u ∷ s ∷ T ∷ c ∷ []) (search reify depth 40) refl
 
-    -- a toggle turns one dot
-    toggle-sets : (m : ℕ) → toggle dots m .sets ≡ turns dots m ∷ []
-    unfolding toggle
-    toggle-sets m = go (getD dots m 0) (bits .each m)
+        one : (z : ℤ) → pos 1 *ℤ z ≡ z
+        one z = ring! (z ∷ []) (search reify depth 40) refl
+
+    -- where the dots of m and n differ
+    pub swap-change : (m n : ℕ) → m < cells t → n < cells t → (getD dots m 0 ≡ getD dots n 0 → ⊥)
+        → change t dots (swap dots m n) ≡ swapChange t dots m n
+    unfolding swapSum crosswise sumOver
+    swap-change m n h k unlike =
+        let is = swap-sets dots bits m n unlike in
+        change-is dots (swap dots m n) long (subst (Placed (cells t)) (sym is) (h, (k, tt)))
+        ∙ ap (λ l. u *ℤ inner dots (units dots l)) is
+        ∙ ap₂ (λ y z. u *ℤ inner dots (record { cell = m; amount = y } ∷ record { cell = n; amount = z } ∷ []))
+        (sign-is dots bits m) there
+        ∙ ap (λ z. u *ℤ z)
+        (turn (sign dots m) (filteredError t dots m) (filteredError t dots n)
+        (kernel t m m) (kernel t n n) (kernel t m n) (kernel t n m))
+        ∙ rw (sign-square dots m, kernel-peak m, kernel-peak n, kernel-symmetric t n m)
+        (twice (sign dots m) (filteredError t dots m) (filteredError t dots n)
+        (peak (t .radius) (t .psf)) (kernel t m n))
       where
-        go : (x : ℕ) → x ≤ 1
-            → pick {A = Move} (eqb x 0) (record { raises = onCount; sets = record { cell = m; byte = 1 } ∷ [] })
-            (record { raises = offCount; sets = record { cell = m; byte = 0 } ∷ [] }) .sets
-            ≡ record { cell = m; byte = 1 - x } ∷ []
-        go zero h = refl
-        go (suc zero) h = refl
-        go (suc (suc x)) h = absurd (two x h)
+        u : ℤ
+        u = pos (t .step)
 
-    -- a swap of unlike dots turns both
-    swap-sets : (m n : ℕ) → (getD dots m 0 ≡ getD dots n 0 → ⊥) → swap dots m n .sets ≡ turns dots m ∷ turns dots n ∷ []
-    unfolding swap
-    swap-sets m n unlike =
-        let x : ℕ = getD dots m 0 in
-        let y : ℕ = getD dots n 0 in
-        ap₂ (λ (a b : ℕ). record { cell = m; byte = a } ∷ record { cell = n; byte = b } ∷ [])
-        (omega (arith, bits .each m, bits .each n)) (omega (arith, bits .each m, bits .each n))
+        turned : (a b : ℤ) → a -ℤ b ≡ negℤ (b -ℤ a)
+        turned a b = ring! (a ∷ b ∷ []) (search reify depth 40) refl
 
-    -- the copies on which they are made
-    pub toggle-made : (m : ℕ) → made dots (toggle dots m .sets) ≡ flipped dots m
-    unfolding made
-    toggle-made m = ap (made dots) (toggle-sets m)
+        there : pos (1 - getD dots n 0) -ℤ pos (getD (set dots m (1 - getD dots m 0)) n 0) ≡ negℤ (sign dots m)
+        there =
+            let x : 1 - getD dots n 0 ≡ getD dots m 0 = omega (arith, bits .each m, bits .each n) in
+            let y : getD dots n 0 ≡ 1 - getD dots m 0 = omega (arith, bits .each m, bits .each n) in
+            let apart : n ≡ m → ⊥ = λ e. unlike (ap (λ k. getD dots k 0) (sym e)) in
+            ap₂ (λ (a b : ℕ). pos a -ℤ pos b) x (turned-other dots m n apart ∙ y)
+            ∙ turned (pos (getD dots m 0)) (pos (1 - getD dots m 0))
+            ∙ ap negℤ (sign-is dots bits m)
 
-    pub swap-made : (m n : ℕ) → (getD dots m 0 ≡ getD dots n 0 → ⊥)
-        → made dots (swap dots m n .sets) ≡ flipped (flipped dots m) n
-    unfolding made
-    swap-made m n unlike =
-        ap (made dots) (swap-sets m n unlike)
-        ∙ ap (λ x. set (flipped dots m) n (1 - x))
-        (sym (turned-other m n (λ e. unlike (ap (λ k. getD dots k 0) (sym e)))))
+        twice : (s S T P c : ℤ)
+            → u *ℤ (pos 2 *ℤ (s *ℤ (S -ℤ T)) +ℤ u *ℤ (pos 1 *ℤ (P +ℤ P -ℤ c -ℤ c)))
+            ≡ pos 2 *ℤ u *ℤ (s *ℤ (S -ℤ T) +ℤ u *ℤ (P -ℤ c))
+        twice s S T P c = ring! (u ∷ s ∷ S ∷ T ∷ P ∷ c ∷ []) (search reify depth 40) refl
 
-    -- ---- document 01's formulas are the differences of the sums
-    module _ (long : length dots ≡ cells t) where
-      pub toggle-change : (m : ℕ) → m < cells t → change t dots (toggle dots m) ≡ toggleChange t dots m
-      unfolding toggleSum crosswise sumOver
-      toggle-change m h =
-          change-is dots (toggle dots m) long (subst (Placed (cells t)) (sym (toggle-sets m)) (h, tt))
-          ∙ ap (λ l. u *ℤ inner dots (units dots l)) (toggle-sets m)
-          ∙ ap (λ z. u *ℤ inner dots (record { cell = m; amount = z } ∷ [])) (sign-is m)
-          ∙ ap (λ z. u *ℤ z) (turn (sign dots m) (filteredError t dots m) (kernel t m m))
-          ∙ ap₂ (λ a b. u *ℤ (pos 2 *ℤ sign dots m *ℤ filteredError t dots m +ℤ u *ℤ (a *ℤ b)))
-          (sign-square m) (kernel-peak m)
-          ∙ ap (λ z. u *ℤ (pos 2 *ℤ sign dots m *ℤ filteredError t dots m +ℤ u *ℤ z)) (one (peak (t .radius) (t .psf)))
-        where
-          u : ℤ
-          u = pos (t .step)
+        turn : (s S T a b c d : ℤ)
+            → pos 2 *ℤ (s *ℤ S +ℤ (negℤ s *ℤ T +ℤ pos 0))
+            +ℤ u *ℤ (s *ℤ (s *ℤ a +ℤ (negℤ s *ℤ d +ℤ pos 0))
+            +ℤ (negℤ s *ℤ (s *ℤ c +ℤ (negℤ s *ℤ b +ℤ pos 0)) +ℤ pos 0))
+            ≡ pos 2 *ℤ (s *ℤ (S -ℤ T)) +ℤ u *ℤ (s *ℤ s *ℤ (a +ℤ b -ℤ c -ℤ d))
+        turn s S T a b c d =
+            ring! (u ∷ s ∷ S ∷ T ∷ a ∷ b ∷ c ∷ d ∷ []) (search reify depth 40 fits 9000) refl
 
-          turn : (s T c : ℤ)
-              → pos 2 *ℤ (s *ℤ T +ℤ pos 0) +ℤ u *ℤ (s *ℤ (s *ℤ c +ℤ pos 0) +ℤ pos 0)
-              ≡ pos 2 *ℤ s *ℤ T +ℤ u *ℤ (s *ℤ s *ℤ c)
-          turn s T c = ring! (u ∷ s ∷ T ∷ c ∷ []) (search reify depth 40) refl
-
-          one : (z : ℤ) → pos 1 *ℤ z ≡ z
-          one z = ring! (z ∷ []) (search reify depth 40) refl
-
-      -- where the dots of m and n differ
-      pub swap-change : (m n : ℕ) → m < cells t → n < cells t → (getD dots m 0 ≡ getD dots n 0 → ⊥)
-          → change t dots (swap dots m n) ≡ swapChange t dots m n
-      unfolding swapSum crosswise sumOver
-      swap-change m n h k unlike =
-          change-is dots (swap dots m n) long (subst (Placed (cells t)) (sym (swap-sets m n unlike)) (h, (k, tt)))
-          ∙ ap (λ l. u *ℤ inner dots (units dots l)) (swap-sets m n unlike)
-          ∙ ap₂ (λ y z. u *ℤ inner dots (record { cell = m; amount = y } ∷ record { cell = n; amount = z } ∷ []))
-          (sign-is m) there
-          ∙ ap (λ z. u *ℤ z)
-          (turn (sign dots m) (filteredError t dots m) (filteredError t dots n)
-          (kernel t m m) (kernel t n n) (kernel t m n) (kernel t n m))
-          ∙ rw (sign-square m, kernel-peak m, kernel-peak n, kernel-symmetric t n m)
-          (twice (sign dots m) (filteredError t dots m) (filteredError t dots n)
-          (peak (t .radius) (t .psf)) (kernel t m n))
-        where
-          u : ℤ
-          u = pos (t .step)
-
-          turned : (a b : ℤ) → a -ℤ b ≡ negℤ (b -ℤ a)
-          turned a b = ring! (a ∷ b ∷ []) (search reify depth 40) refl
-
-          there : pos (1 - getD dots n 0) -ℤ pos (getD (set dots m (1 - getD dots m 0)) n 0) ≡ negℤ (sign dots m)
-          there =
-              let x : 1 - getD dots n 0 ≡ getD dots m 0 = omega (arith, bits .each m, bits .each n) in
-              let y : getD dots n 0 ≡ 1 - getD dots m 0 = omega (arith, bits .each m, bits .each n) in
-              let apart : n ≡ m → ⊥ = λ e. unlike (ap (λ k. getD dots k 0) (sym e)) in
-              ap₂ (λ (a b : ℕ). pos a -ℤ pos b) x (turned-other m n apart ∙ y)
-              ∙ turned (pos (getD dots m 0)) (pos (1 - getD dots m 0))
-              ∙ ap negℤ (sign-is m)
-
-          twice : (s S T P c : ℤ)
-              → u *ℤ (pos 2 *ℤ (s *ℤ (S -ℤ T)) +ℤ u *ℤ (pos 1 *ℤ (P +ℤ P -ℤ c -ℤ c)))
-              ≡ pos 2 *ℤ u *ℤ (s *ℤ (S -ℤ T) +ℤ u *ℤ (P -ℤ c))
-          twice s S T P c = ring! (u ∷ s ∷ S ∷ T ∷ P ∷ c ∷ []) (search reify depth 40) refl
-
-          turn : (s S T a b c d : ℤ)
-              → pos 2 *ℤ (s *ℤ S +ℤ (negℤ s *ℤ T +ℤ pos 0))
-              +ℤ u *ℤ (s *ℤ (s *ℤ a +ℤ (negℤ s *ℤ d +ℤ pos 0))
-              +ℤ (negℤ s *ℤ (s *ℤ c +ℤ (negℤ s *ℤ b +ℤ pos 0)) +ℤ pos 0))
-              ≡ pos 2 *ℤ (s *ℤ (S -ℤ T)) +ℤ u *ℤ (s *ℤ s *ℤ (a +ℤ b -ℤ c -ℤ d))
-          turn s S T a b c d =
-              ring! (u ∷ s ∷ S ∷ T ∷ a ∷ b ∷ c ∷ d ∷ []) (search reify depth 40 fits 9000) refl
-
-      -- ---- the table follows: each T(q) gains step × s(m) × c(q - m)
-      pub flip-table : (c : List ℤ) → HoldsKernel (t .radius) (t .psf) c → (m : ℕ) → m < cells t
-          → filteredErrors t (flipped dots m)
-          ≡ addWindow (t .width) (2 * t .radius) c
-          (pos (t .step) *ℤ sign dots m) (m / t .width) (m % t .width) (filteredErrors t dots)
-      unfolding filteredErrors made sumOver
-      flip-table c k m h =
-          tabulate-cong (cells t) (λ q l.
-          filtered-edit t dots (flipped dots m) (record { cell = m; amount = a } ∷ []) (h, tt)
-          (error-made dots (turns dots m ∷ []) (rw long (h, tt))) q
-          ∙ ap (λ z. filteredError t dots q +ℤ z)
-          (+ℤ-idr (a *ℤ kernel t m q)
-          ∙ ap₂ (λ y z. pos (t .step) *ℤ y *ℤ z) (sign-is m) (sym (gain-kernel t c k m q))))
-          ∙ sym (addWindow-tabulate (t .width) (2 * t .radius) c (cells t)
-          (filteredError t dots) (pos (t .step) *ℤ sign dots m) (m / t .width) (m % t .width))
-        where
-          a : ℤ
-          a = pos (t .step) *ℤ (pos (1 - getD dots m 0) -ℤ pos (getD dots m 0))
+    -- ---- the table follows: each T(q) gains step × s(m) × c(q - m)
+    pub flip-table : (c : List ℤ) → HoldsKernel (t .radius) (t .psf) c → (m : ℕ) → m < cells t
+        → filteredErrors t (flipped dots m)
+        ≡ addWindow (t .width) (2 * t .radius) c
+        (pos (t .step) *ℤ sign dots m) (m / t .width) (m % t .width) (filteredErrors t dots)
+    unfolding filteredErrors made sumOver
+    flip-table c k m h =
+        tabulate-cong (cells t) (λ q l.
+        filtered-edit t dots (flipped dots m) (record { cell = m; amount = a } ∷ []) (h, tt)
+        (error-made dots (turns dots m ∷ []) (rw long (h, tt))) q
+        ∙ ap (λ z. filteredError t dots q +ℤ z)
+        (+ℤ-idr (a *ℤ kernel t m q)
+        ∙ ap₂ (λ y z. pos (t .step) *ℤ y *ℤ z) (sign-is dots bits m) (sym (gain-kernel t c k m q))))
+        ∙ sym (addWindow-tabulate (t .width) (2 * t .radius) c (cells t)
+        (filteredError t dots) (pos (t .step) *ℤ sign dots m) (m / t .width) (m % t .width))
+      where
+        a : ℤ
+        a = pos (t .step) *ℤ (pos (1 - getD dots m 0) -ℤ pos (getD dots m 0))

@@ -5,6 +5,7 @@ pub mod Error
 pub mod Window
 pub mod Screen
 pub mod Refusal
+pub mod Turn
 pub mod Change
 pub mod Halftone
 pub mod State

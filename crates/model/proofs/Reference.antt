@@ -22,6 +22,7 @@ use Rattle.model.specs.State.{dotTotal, changes, StateFits}
 use Rattle.model.specs.Reference.{Count, onCount, offCount, swapCount, ofOn, ofOff, ofSwaps}
 use Rattle.model.specs.Reference.{Setting, Move, made, toggle, swap, reference, accept, statsOf, change}
 use Rattle.model.proofs.Error.{squared-nonneg}
+use Rattle.model.proofs.Turn.{flipped, two, toggle-sets, toggle-made}
 use Rattle.model.proofs.Change.{Placed, change-least}
 
 -- ---- one store
@@ -65,19 +66,24 @@ made-bits dots (x ∷ l) h k bits =
 module _ (dots : List ℕ) (bits : AtMost 1 dots) where
   pub toggle-legal : (m : ℕ) → m < length dots → Legal (length dots) dots (toggle dots m)
   unfolding toggle made
-  toggle-legal m h = go (getD dots m 0) (bits .each m) (λ x. total-set dots m x h)
+  toggle-legal m h =
+      let is = sym (toggle-sets dots bits m) in
+      record {
+        placed = subst (Placed (length dots)) is (h, tt);
+        bits = subst Bits is (omega arith, tt);
+        balance =
+            rw (toggle-made dots bits m)
+            (go (getD dots m 0) (bits .each m) (total-set dots m (1 - getD dots m 0) h));
+      }
     where
-      go : (x : ℕ) → x ≤ 1 → ((y : ℕ) → total (set dots m y) + x ≡ total dots + y)
-          → Legal (length dots) dots
-          (pick (eqb x 0)
-          (record { raises = onCount; sets = record { cell = m; byte = 1 } ∷ [] })
-          (record { raises = offCount; sets = record { cell = m; byte = 0 } ∷ [] }))
-      go zero k e = record { placed = (h, tt); bits = (omega arith, tt); balance = e 1 }
-      go (suc zero) k e = record { placed = (h, tt); bits = (omega arith, tt); balance = e 0 }
-      go (suc (suc x)) k e = absurd (no x k)
-        where
-          no : (n : ℕ) → suc (suc n) ≤ 1 → ⊥
-          no n h = omega arith
+      after : ℕ
+      after = total (flipped dots m)
+
+      go : (x : ℕ) → x ≤ 1 → after + x ≡ total dots + (1 - x)
+          → after + ofOff (pick (eqb x 0) onCount offCount) ≡ total dots + ofOn (pick (eqb x 0) onCount offCount)
+      go zero k e = e
+      go (suc zero) k e = e
+      go (suc (suc x)) k e = absurd (two x k)
 
   pub swap-legal : (m n : ℕ) → m < length dots → n < length dots → (getD dots m 0 ≡ getD dots n 0 → ⊥)
       → Legal (length dots) dots (swap dots m n)

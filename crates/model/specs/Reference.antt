@@ -34,9 +34,8 @@ made dots (x ∷ l) = made (set dots (x .cell) (x .byte)) l
 -- a toggle at m: a blank gets a dot, a dot is taken
 unfoldable pub toggle : List ℕ → ℕ → Move
 toggle dots m =
-    pick (eqb (getD dots m 0) 0)
-    (record { raises = onCount; sets = record { cell = m; byte = 1 } ∷ [] })
-    (record { raises = offCount; sets = record { cell = m; byte = 0 } ∷ [] })
+    let blank = eqb (getD dots m 0) 0 in
+    record { raises = pick blank onCount offCount; sets = record { cell = m; byte = pick blank 1 0 } ∷ [] }
 
 -- a swap of m and n: each gets the other's byte
 unfoldable pub swap : List ℕ → ℕ → ℕ → Move

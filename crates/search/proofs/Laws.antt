@@ -22,7 +22,8 @@ use Rattle.model.proofs.Basic.{getD-tabulate}
 use Rattle.model.proofs.Error.{filtered-long}
 use Rattle.model.proofs.Window.{square-small}
 use Rattle.model.proofs.Halftone.{filtered-small, squared-least, squared-most}
-use Rattle.model.proofs.Change.{flipped, toggle-change, swap-change, flip-table}
+use Rattle.model.proofs.Turn.{flipped}
+use Rattle.model.proofs.Change.{toggle-change, swap-change, flip-table}
 use Rattle.model.proofs.Reference.{bits-set}
 
 -- dots with their table

@@ -21,7 +21,7 @@ use Rattle.model.specs.State.{LaterFits}
 use Rattle.model.specs.Window.{Small, mostFiltered}
 use Rattle.model.specs.Change.{sign, swapSum}
 use Rattle.model.proofs.Attempts.{attempt-declined, attempt-accepted}
-use Rattle.model.proofs.Change.{flipped, swap-made}
+use Rattle.model.proofs.Turn.{flipped, swap-made}
 use Rattle.model.proofs.Halftone.{filtered-small}
 use Rattle.model.proofs.State.{at-least, below}
 use Rattle.window.proofs.Rows.{index-fits}
@@ -230,7 +230,7 @@ returns c =
     attempt-accepted _ _ _ _ _ _ (fits a) (v a) (change-is (d f))
     (below (sym (after .before .before .lowers .ensures) ∙ after .before .if1 .taken))
     (after .count-swap .ensures)
-    (now-is ∙ sym (swap-made (t a) dots (fits a .halftone .bits) (q a) (o a) (s a .pre .1 .1 .1 .1)))
+    (now-is ∙ sym (swap-made dots (fits a .halftone .bits) (q a) (o a) (s a .pre .1 .1 .1 .1)))
     (flip2 .flip2 .ensures .1
     ∙ flip-is _ _ _ _ _ _ _ (fits1 f) _ (s a .pre .1 .0) _ _ (s a .pre .1 .1 .1 .0 .0) (s a .pre .1 .1 .1 .0 .1)
     (table1 f)

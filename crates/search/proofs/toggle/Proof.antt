@@ -16,9 +16,9 @@ use Rattle.model.specs.Error.{Target, targetFor, cellAt, filteredErrors}
 use Rattle.model.specs.Reference.{Move, toggle, change}
 use Rattle.model.specs.State.{LaterFits}
 use Rattle.model.specs.Window.{Small, mostFiltered}
-use Rattle.model.specs.Change.{sign, toggleSum, counted}
+use Rattle.model.specs.Change.{sign, toggleSum}
 use Rattle.model.proofs.Attempts.{attempt-declined, attempt-accepted}
-use Rattle.model.proofs.Change.{toggle-made, toggle-raises}
+use Rattle.model.proofs.Turn.{toggle-made}
 use Rattle.model.proofs.Halftone.{filtered-small}
 use Rattle.model.proofs.State.{at-least, below}
 use Rattle.window.proofs.Rows.{index-fits}
@@ -141,6 +141,7 @@ same-length-2 : tie.Need-same-length-2
 same-length-2 c = search needs
 
 returns : tie.Need-returns
+unfolding toggle
 returns c =
     let flip = c .before .before .before in
     let after = flip .before .before .before in
@@ -150,8 +151,8 @@ returns c =
     let dots = s k .args .dots .now in
     attempt-accepted _ _ _ _ _ _ (fits k) (v k) (change-is d)
     (below (sym (lower .lowers .ensures) ∙ after .before .before .if1 .taken))
-    (after .count-toggle .ensures ∙ ap (counted (s k .args .stats) _) (sym (toggle-raises dots (q k))))
-    (flip .flip .ensures .0 ∙ sym (toggle-made (t k) dots (fits k .halftone .bits) (q k)))
+    (after .count-toggle .ensures)
+    (flip .flip .ensures .0 ∙ sym (toggle-made dots (fits k .halftone .bits) (q k)))
     (flip .flip .ensures .1
     ∙ flip-is _ _ _ _ _ _ _ (fits k .halftone) _ (s k .pre .1 .0) _ _ (s k .pre .1 .1 .0) (s k .pre .1 .1 .1)
     (fits k .state .table-is)
