@@ -2,7 +2,7 @@
 -- leaves.
 use mathlib.Core.Bool.{Bool, true, false}
 use mathlib.Core.List.{List, [], _∷_}
-use mathlib.Core.Path.{_≡_, refl, _∙_, ap, ap₂, subst}
+use mathlib.Core.Path.{_≡_, refl, sym, _∙_, ap, ap₂, subst}
 use Prim.Native.Nat.{ℕ, _+_}
 use lib.Dec.{T, lit≤}
 use lib.IntN.{ℤ, pos, _+ℤ_, _-ℤ_}
@@ -21,7 +21,7 @@ use Rattle.model.specs.Reference.{ofOn, ofOff, ofSwaps, statsOf, change,
 use Rattle.model.specs.Calls.{result, statsAfter}
 use Rattle.model.proofs.Error.{filtered-long}
 use Rattle.model.proofs.State.{below, at-least}
-use Rattle.model.proofs.Reference.{Legal, made-long, made-bits, accept-fits}
+use Rattle.model.proofs.Reference.{Legal, halftone-made, accept-fits}
 
 -- ---- the two cases
 module _ (t : Target) (p : Reference) (v : Move) where
@@ -98,19 +98,13 @@ module _ (m : Measures) (psf gray dots : List ℕ) (table : List ℤ) (s : Stats
   abbrev t : Target
   t = targetFor m psf gray
 
-  halftone : (let after = made dots (v .sets) in
-      HalftoneFits (m .width) (m .height) (m .radius) psf gray after (length (filteredErrors t after)))
+  abbrev Fits : ℕ → Type 0
+  Fits = HalftoneFits (m .width) (m .height) (m .radius) psf gray (made dots (v .sets))
+
+  halftone : Fits (length (filteredErrors t (made dots (v .sets))))
   halftone =
-      let h = f .halftone in
-      record {
-        wide = h .wide;
-        high = h .high;
-        psf-fits = h .psf-fits;
-        gray-length = h .gray-length;
-        dots-length = made-long dots (v .sets) ∙ h .dots-length;
-        table-length = filtered-long t (made dots (v .sets));
-        bits = made-bits dots (v .sets) (legal .placed) (legal .bits) (h .bits);
-      }
+      subst Fits (f .halftone .table-length ∙ sym (filtered-long t (made dots (v .sets))))
+      (halftone-made dots (v .sets) (f .halftone) (legal .placed) (legal .bits))
 
   -- accepted or declined, later calls accept it again
   abbrev Kept : Attempted → Type 0

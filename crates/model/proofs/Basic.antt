@@ -21,11 +21,11 @@ use Rattle.algebra.proofs.Interval.{Supported2}
 use Rattle.model.specs.Basic.{pick, tabulate, AtMost, gridAt, squareAt}
 
 -- ---- a choice whose test is known
-pub pick-yes {ℓ} : {A : Type ℓ} (b : Bool) (x y : A) → T b → pick b x y ≡ x
+pick-yes {ℓ} : {A : Type ℓ} (b : Bool) (x y : A) → T b → pick b x y ≡ x
 pick-yes true x y t = refl
 pick-yes false x y t = absurd t
 
-pub pick-no {ℓ} : {A : Type ℓ} (b : Bool) (x y : A) → (T b → ⊥) → pick b x y ≡ y
+pick-no {ℓ} : {A : Type ℓ} (b : Bool) (x y : A) → (T b → ⊥) → pick b x y ≡ y
 pick-no true x y t = absurd (t tt)
 pick-no false x y t = refl
 

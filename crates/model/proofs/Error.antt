@@ -43,7 +43,7 @@ module _ (t : Target) where
       turn : (a b : ℤ) → negℤ (a -ℤ b) ≡ b -ℤ a
       turn a b = ring! (a ∷ b ∷ []) (search reify depth 40) refl
 
-  pub kernel-nonneg : (n m : ℕ) → pos 0 ≤ℤ kernel t n m
+  kernel-nonneg : (n m : ℕ) → pos 0 ≤ℤ kernel t n m
   unfolding kernel
   kernel-nonneg n m = autocorrelation-nonneg (t .radius) (t .psf) (row t n -ℤ row t m) (column t n -ℤ column t m)
 

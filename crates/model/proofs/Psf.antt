@@ -25,7 +25,7 @@ pub side : (r : ℕ) → 2 * (2 * r) + 1 ≡ 4 * r + 1
 side r = omega arith
 
 -- the sum of a list, entry by entry
-pub total-sum : (l : List ℕ) → sumTo (length l) (λ n. pos (getD l n 0)) ≡ pos (total l)
+total-sum : (l : List ℕ) → sumTo (length l) (λ n. pos (getD l n 0)) ≡ pos (total l)
 unfolding sumTo total
 total-sum [] = refl
 total-sum (x ∷ l) =
@@ -58,7 +58,7 @@ module _ (r : ℕ) (psf : List ℕ) where
         };
       }
 
-  pub psf-nonneg : (y x : ℤ) → pos 0 ≤ℤ psfAt r psf y x
+  psf-nonneg : (y x : ℤ) → pos 0 ≤ℤ psfAt r psf y x
   unfolding psfAt
   psf-nonneg y x = omega (arith, ordℤ)
 

@@ -18,6 +18,7 @@ use Rattle.model.specs.declared.Stats.{Stats}
 use Rattle.model.specs.Basic.{pick, AtMost}
 use Rattle.model.specs.Psf.{total}
 use Rattle.model.specs.Error.{Target, cells, filteredErrors, squaredError, mostSquared}
+use Rattle.model.specs.Refusal.{HalftoneFits}
 use Rattle.model.specs.State.{dotTotal, changes, StateFits}
 use Rattle.model.specs.Reference.{Count, onCount, offCount, swapCount, ofOn, ofOff, ofSwaps}
 use Rattle.model.specs.Reference.{Setting, Move, made, toggle, swap, reference, accept, statsOf, change}
@@ -32,7 +33,7 @@ total-set [] m x h = absurd (not-suc-le-zero h)
 total-set (d ∷ dots) zero x h = omega arith
 total-set (d ∷ dots) (suc m) x h = omega (arith, total-set dots m x (omega arith))
 
-pub bits-set : (dots : List ℕ) (m x : ℕ) → m < length dots → x ≤ 1 → AtMost 1 dots → AtMost 1 (set dots m x)
+bits-set : (dots : List ℕ) (m x : ℕ) → m < length dots → x ≤ 1 → AtMost 1 dots → AtMost 1 (set dots m x)
 bits-set dots m x h k bits = record { each = λ n. go n (ℕ-discrete n m) }
   where
     go : (n : ℕ) → Dec (n ≡ m) → getD (set dots m x) n 0 ≤ 1
@@ -50,18 +51,33 @@ pub record Legal (N : ℕ) (dots : List ℕ) (v : Move) : Type 0 where
   pub bits : Bits (v .sets)
   pub balance : dotTotal (made dots (v .sets)) + ofOff (v .raises) ≡ dotTotal dots + ofOn (v .raises)
 
-pub made-long : (dots : List ℕ) (l : List Setting) → length (made dots l) ≡ length dots
+made-long : (dots : List ℕ) (l : List Setting) → length (made dots l) ≡ length dots
 unfolding made
 made-long dots [] = refl
 made-long dots (x ∷ l) = made-long (set dots (x .cell) (x .byte)) l ∙ length-set dots (x .cell) (x .byte)
 
-pub made-bits : (dots : List ℕ) (l : List Setting) → Placed (length dots) l → Bits l → AtMost 1 dots
+made-bits : (dots : List ℕ) (l : List Setting) → Placed (length dots) l → Bits l → AtMost 1 dots
     → AtMost 1 (made dots l)
 unfolding made
 made-bits dots [] h k bits = bits
 made-bits dots (x ∷ l) h k bits =
     made-bits (set dots (x .cell) (x .byte)) l (rw (length-set dots (x .cell) (x .byte)) (h .1)) (k .1)
     (bits-set dots (x .cell) (x .byte) (h .0) (k .0) bits)
+
+-- so a plate that fits fits after it
+pub halftone-made : {w h r : ℕ} {psf gray : List ℕ} {n : ℕ} (dots : List ℕ) (l : List Setting)
+    → HalftoneFits w h r psf gray dots n → Placed (length dots) l → Bits l
+    → HalftoneFits w h r psf gray (made dots l) n
+halftone-made dots l f placed bits =
+    record {
+      wide = f .wide;
+      high = f .high;
+      psf-fits = f .psf-fits;
+      gray-length = f .gray-length;
+      dots-length = made-long dots l ∙ f .dots-length;
+      table-length = f .table-length;
+      bits = made-bits dots l placed bits (f .bits);
+    }
 
 module _ (dots : List ℕ) (bits : AtMost 1 dots) where
   pub toggle-legal : (m : ℕ) → m < length dots → Legal (length dots) dots (toggle dots m)

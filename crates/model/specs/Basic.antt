@@ -1,4 +1,5 @@
--- The few general words that the other definitions use: a choice, a list by its entries, its bound, an entry of a square.
+-- The few general words that the other definitions use: a choice, a list by its entries, its bound, an entry of a
+-- square.
 use mathlib.Core.Bool.{Bool, true, false}
 use mathlib.Core.List.{List, [], _∷_, _++_}
 use Prim.Native.Nat.{ℕ, zero, suc, _+_, _*_, _≤_}

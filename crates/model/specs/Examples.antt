@@ -1,5 +1,5 @@
--- The starred examples of document 01, as one table: a field for each figure. `examples` of proofs/Examples.antt fills it
--- by computing the sums.
+-- The starred examples of document 01, as one table: a field for each figure. `examples` of proofs/Examples.antt fills
+-- it by computing the sums.
 use mathlib.Core.Path.{_≡_}
 use mathlib.Core.List.{List, [], _∷_}
 use Prim.Native.Nat.{ℕ}

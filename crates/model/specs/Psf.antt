@@ -1,5 +1,5 @@
--- The psf (01: the spread p), its autocorrelation c and its peak P. Offsets are pairs of integers, rows down and columns
--- right, so nothing is cut off or folded at an edge; no mirror symmetry of the psf is assumed.
+-- The psf (01: the spread p), its autocorrelation c and its peak P. Offsets are pairs of integers, rows down and
+-- columns right, so nothing is cut off or folded at an edge; no mirror symmetry of the psf is assumed.
 use mathlib.Core.List.{List, [], _∷_}
 use Prim.Native.Nat.{ℕ, _+_, _*_, _/_, _%_}
 use lib.IntN.{ℤ, pos, negℤ, _+ℤ_, _-ℤ_, _*ℤ_}

@@ -1,5 +1,5 @@
--- Document 01's refusals because of the input: each is a number with its condition, and a call is refused with the number
--- of the first in its list whose condition holds.
+-- Document 01's refusals because of the input: each is a number with its condition, and a call is refused with the
+-- number of the first in its list whose condition holds.
 use mathlib.Core.Bool.{Bool, true, false, _||_, _&&_, not}
 use mathlib.Core.List.{List, [], _∷_, _++_}
 use mathlib.Core.Path.{_≡_}

@@ -1,4 +1,5 @@
--- The window update: what adding a kernel, times an amount, around one cell does to a table, and many of them one by one.
+-- The window update: what adding a kernel, times an amount, around one cell does to a table, and many of them one by
+-- one; and a list that holds the kernel c.
 use mathlib.Core.List.{List}
 use mathlib.Core.Path.{_≡_}
 use Prim.Native.Nat.{ℕ, _+_, _*_, _/_, _%_, _≤_}

@@ -1,11 +1,11 @@
 -- What the attempts have in common once they are judged: the formulas over the table and the kernel are the changes of
 -- the reference, and turning a dot leaves the table of the dots turned.
 use mathlib.Core.Path.{_≡_, refl, sym, _∙_, ap, ap₂, subst}
-use mathlib.Core.List.{List}
+use mathlib.Core.List.{List, [], _∷_}
 use Prim.Native.Nat.{ℕ, _+_, _*_, _-_, _≤_, _<_}
 use native.Mathlib.Omega.{arith}
 use lib.IntN.{ℤ, pos, natAbs, _-ℤ_, _*ℤ_}
-use lib.ListN.{length, getD, length-set}
+use lib.ListN.{length, getD}
 use Rattle.algebra.proofs.Grid.{cell-row, cell-column, cell<}
 use Rattle.algebra.proofs.Order.{natAbs-below}
 use Rattle.model.specs.declared.Measures.{Measures}
@@ -17,14 +17,14 @@ use Rattle.model.specs.Window.{addWindow, Small, HoldsKernel, mostFiltered}
 use Rattle.model.specs.Refusal.{HalftoneFits}
 use Rattle.model.specs.State.{LaterFits}
 use Rattle.model.specs.Change.{sign, toggleSum, swapSum}
-use Rattle.model.specs.Reference.{toggle, swap, change}
+use Rattle.model.specs.Reference.{made, toggle, swap, change}
 use Rattle.model.proofs.Basic.{getD-tabulate}
 use Rattle.model.proofs.Error.{filtered-long}
 use Rattle.model.proofs.Window.{square-small}
 use Rattle.model.proofs.Halftone.{filtered-small, squared-least, squared-most}
-use Rattle.model.proofs.Turn.{flipped}
+use Rattle.model.proofs.Turn.{turns, flipped}
 use Rattle.model.proofs.Change.{toggle-change, swap-change, flip-table}
-use Rattle.model.proofs.Reference.{bits-set}
+use Rattle.model.proofs.Reference.{halftone-made}
 
 -- dots with their table
 module _ (w h r : ℕ) (psf gray dots : List ℕ) (n : ℕ) (f : HalftoneFits w h r psf gray dots n) where
@@ -35,18 +35,9 @@ module _ (w h r : ℕ) (psf gray dots : List ℕ) (n : ℕ) (f : HalftoneFits w 
   unfolding filteredErrors
   entry q l = getD-tabulate (cells t) (filteredError t dots) q (pos 0) l
 
-  pub flipped-fits : (q : ℕ) → q < cells t
-      → HalftoneFits w h r psf gray (flipped dots q) n
-  flipped-fits q l =
-      record {
-        wide = f .wide;
-        high = f .high;
-        psf-fits = f .psf-fits;
-        gray-length = f .gray-length;
-        dots-length = length-set dots q (1 - getD dots q 0) ∙ f .dots-length;
-        table-length = f .table-length;
-        bits = bits-set dots q (1 - getD dots q 0) (omega (arith, f .dots-length)) (omega arith) (f .bits);
-      }
+  pub flipped-fits : (q : ℕ) → q < cells t → HalftoneFits w h r psf gray (flipped dots q) n
+  unfolding made
+  flipped-fits q l = halftone-made dots (turns dots q ∷ []) f (rw (f .dots-length) l, tt) (omega arith, tt)
 
   -- with the kernel
   module _ (c : List ℤ) (k : HoldsKernel r psf c) where

@@ -9,5 +9,6 @@ use lib.ListN.{length, getD}
 pub record Ran (at : ℕ) (c : List ℤ) (from : ℕ) (amount : ℤ) (n : ℕ) (t₀ t : List ℤ) : Type 0 where
   pub long : length t ≡ length t₀
   pub below : (q : ℕ) → q < at → getD t q (pos 0) ≡ getD t₀ q (pos 0)
-  pub within : (k : ℕ) → k < n → getD t (at + k) (pos 0) ≡ getD t₀ (at + k) (pos 0) +ℤ amount *ℤ getD c (from + k) (pos 0)
+  pub within : (k : ℕ) → k < n
+      → getD t (at + k) (pos 0) ≡ getD t₀ (at + k) (pos 0) +ℤ amount *ℤ getD c (from + k) (pos 0)
   pub beyond : (q : ℕ) → at + n ≤ q → getD t q (pos 0) ≡ getD t₀ q (pos 0)
