@@ -38,7 +38,7 @@ fn by_measures() {
 }
 
 // a toggle of the blank pair, with other slices and another cell
-fn lent(
+fn buffered(
     label: &[u8],
     psf: &[u8],
     gray: &[u8],
@@ -63,7 +63,7 @@ fn lent(
 // 5
 fn by_lengths() {
     let blank = [100u8, 100];
-    lent(
+    buffered(
         b"psf of 1 entry",
         &[1],
         &blank,
@@ -72,7 +72,7 @@ fn by_lengths() {
         0,
         0,
     );
-    lent(
+    buffered(
         b"dots of 3 entries",
         &EVEN,
         &blank,
@@ -81,7 +81,7 @@ fn by_lengths() {
         0,
         0,
     );
-    lent(
+    buffered(
         b"table of 1 entry and psf sum 0",
         &[0; 9],
         &blank,
@@ -95,7 +95,7 @@ fn by_lengths() {
 // 6, 7 and 8
 fn by_contents() {
     let blank = [100u8, 100];
-    lent(
+    buffered(
         b"psf sum 0 and dot 2",
         &[0; 9],
         &blank,
@@ -104,7 +104,7 @@ fn by_contents() {
         0,
         0,
     );
-    lent(
+    buffered(
         b"dot 2 and row 1",
         &EVEN,
         &blank,
@@ -113,7 +113,7 @@ fn by_contents() {
         1,
         0,
     );
-    lent(
+    buffered(
         b"column 2 and table 7 7",
         &EVEN,
         &blank,

@@ -1,14 +1,14 @@
 // One change of a halftone: what a toggle and a swap would add to the squared error, decided by the table in a few
 // operations; and making it, by which a dot, the table and the ledger change together.
 ghost use mathlib.Core.Path.{_≡_};
-ghost use Prim.Native.Nat.{_+_, _*_, _-_, _^_, _<_, _≤_};
+ghost use Prim.Native.Nat.{_+_, _*_, _^_, _<_, _≤_};
 ghost use lib.Dec.{eqb};
-ghost use lib.IntN.{pos, negsuc, natAbs, _-ℤ_, _*ℤ_};
-ghost use lib.ListN.{length, getD, set};
+ghost use lib.IntN.{pos, natAbs, _-ℤ_, _*ℤ_};
+ghost use lib.ListN.{length, getD};
 ghost use lib.Signed.{ltZ};
 ghost use Rattle.model.specs.Basic.{pick, AtMost, squareAt};
-ghost use Rattle.model.specs.Change.{sign, toggleSum, swapSum, raised, counted};
-ghost use Rattle.model.specs.Error.{mostSquared};
+ghost use Rattle.model.specs.Change.{signOf, sign, toggleSum, swapSum, flipped, raised, counted};
+ghost use Rattle.model.specs.Error.{cellAt, mostSquared};
 ghost use Rattle.model.specs.Reference.{onCount, offCount, swapCount};
 ghost use Rattle.model.specs.Window.{addWindow, Small, mostFiltered};
 use model::Stats;
@@ -17,7 +17,7 @@ use window::add_window;
 // a value times s of a cell whose dot byte is `dot`
 fn signed(dot: u8, value: i32) -> i32
     requires { ⌜ natAbs value ≤ 2 * mostFiltered ⌝ }
-    ensures { λ r. ⌜ r ≡ pick (eqb dot 0) (pos 1) (negsuc 0) *ℤ value ⌝ }
+    ensures { λ r. ⌜ r ≡ signOf dot *ℤ value ⌝ }
     ensures { λ r. ⌜ natAbs r ≡ natAbs value ⌝ }
 {
     if dot == 0 { value } else { -value }
@@ -100,10 +100,9 @@ pub fn flip(
     requires { ⌜ ((4 * radius + 1) * (4 * radius + 1) ≤ length (now c)) × Small 1048576 (now c) ⌝ }
     requires { ⌜ (length (now dots) ≡ height * width) × (length (now table) ≡ height * width) ⌝ }
     requires { ⌜ AtMost 1 (now dots) × Small mostFiltered (now table) ⌝ }
-    ensures { λ _. ⌜ now (dots .exit) ≡ set (now (dots .entry)) (row * width + col)
-        (1 - getD (now (dots .entry)) (row * width + col) 0) ⌝ }
+    ensures { λ _. ⌜ now (dots .exit) ≡ flipped (now (dots .entry)) (cellAt width row col) ⌝ }
     ensures { λ _. ⌜ now (table .exit) ≡ addWindow width (2 * radius) (now (c .entry))
-        (pos 255 *ℤ sign (now (dots .entry)) (row * width + col)) row col (now (table .entry)) ⌝ }
+        (pos 255 *ℤ sign (now (dots .entry)) (cellAt width row col)) row col (now (table .entry)) ⌝ }
 {
     let m = row * width + col;
     let dot = dots[m];

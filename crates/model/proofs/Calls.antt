@@ -36,19 +36,19 @@ module _ {A B : Type 0} (b : B) (o : Outcome A B) where
 
 -- the same, of a call that is lent dots and table
 module _ {A : Type 0} (dots : List ℕ) (table : List ℤ) (o : Outcome A Buffers) (n : ℕ) where
-  abbrev lent : Buffers
-  lent = record { dots = dots; table = table }
+  abbrev handed : Buffers
+  handed = record { dots = dots; table = table }
 
   abbrev Left : Reply A → List ℕ → List ℤ → Type 0
   Left r d t =
-      (r ≡ unless n lent o .reply) × ((d ≡ unless n lent o .buffer .dots) × (t ≡ unless n lent o .buffer .table))
+      (r ≡ unless n handed o .reply) × ((d ≡ unless n handed o .buffer .dots) × (t ≡ unless n handed o .buffer .table))
 
   pub both-refused : {x : ℕ} → x ≡ n → (x ≡ 0 → ⊥) → Left (refused x) dots table
   both-refused e h =
-      let (reply, left) = is-refused lent o n e h in
+      let (reply, left) = is-refused handed o n e h in
       (reply, (ap (λ b. b .dots) left, ap (λ b. b .table) left))
 
   pub both-done : {d : List ℕ} {t : List ℤ} → n ≡ 0 → d ≡ o .buffer .dots → t ≡ o .buffer .table → Left (o .reply) d t
   both-done taken e f =
-      let (reply, left) = is-done lent o n taken refl in
+      let (reply, left) = is-done handed o n taken refl in
       (reply, (e ∙ ap (λ b. b .dots) left, f ∙ ap (λ b. b .table) left))

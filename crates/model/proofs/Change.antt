@@ -19,12 +19,12 @@ use Rattle.model.specs.Psf.{autocorrelation, peak}
 use Rattle.model.specs.Error.{Target, cells, row, column, kernel, error}
 use Rattle.model.specs.Error.{filteredError, filteredErrors, squaredError}
 use Rattle.model.specs.Window.{addWindow, HoldsKernel}
-use Rattle.model.specs.Change.{sign, toggleSum, swapSum, toggleChange, swapChange}
+use Rattle.model.specs.Change.{sign, flipped, toggleSum, swapSum, toggleChange, swapChange}
 use Rattle.model.specs.Reference.{Setting, Move, made, toggle, swap, change}
 use Rattle.model.proofs.Basic.{tabulate-cong}
 use Rattle.model.proofs.Error.{kernel-symmetric, filtered-edit, squared-edit}
 use Rattle.model.proofs.Window.{addWindow-tabulate, gain-kernel}
-use Rattle.model.proofs.Turn.{turns, flipped, sign-is, sign-square, turned-other, toggle-sets, swap-sets}
+use Rattle.model.proofs.Turn.{turns, sign-is, sign-square, turned-other, toggle-sets, swap-sets}
 
 -- ---- stores as an edit
 -- every cell of the list is below N

@@ -18,27 +18,27 @@ use Rattle.model.proofs.Refusal.{none-above, halftone-by, halftone-none
 use Rattle.model.proofs.State.{state-accepted, state-known}
 
 -- a cell that is not off the plate
-on-plate : (w h row col : ℕ) → off w h row col ≡ false → (row < h) × (col < w)
-on-plate w h row col e =
+cell-inside : (w h row col : ℕ) → off w h row col ≡ false → (row < h) × (col < w)
+cell-inside w h row col e =
     let (r, c) = neither (not (ltb row h)) (not (ltb col w)) e in (
       ltb→lt row h (subst T (sym (not-false (ltb row h) r)) tt),
       ltb→lt col w (subst T (sym (not-false (ltb col w) c)) tt),
     )
 
 -- two cells, neither of which is
-pub both-on-plate : (w h reach row col row′ col′ : ℕ)
+pub cells-inside : (w h reach row col row′ col′ : ℕ)
     → None (badCells w h row col row′ col′ ∷ badPair reach row col row′ col′ ∷ [])
     → ((row < h) × (col < w)) × ((row′ < h) × (col′ < w))
-both-on-plate w h reach row col row′ col′ drawn =
+cells-inside w h reach row col row′ col′ drawn =
     let (one, other) = neither (off w h row col) (off w h row′ col′) (drawn .0) in
-    (on-plate w h row col one, on-plate w h row′ col′ other)
+    (cell-inside w h row col one, cell-inside w h row′ col′ other)
 
 -- 1 to 7 are not drawn
 pub input-fits : (m : Measures) (psf gray dots : List ℕ) (table : List ℤ) (s : Stats)
     → None (inputRefusals m psf gray dots table s)
     → HalftoneFits (m .width) (m .height) (m .radius) psf gray dots (length table)
-input-fits m psf gray dots table s (size, (radius, (_, (_, (lent, (sum, (dot, _))))))) =
-    halftone-by (m .width) (m .height) (m .radius) psf gray dots (length table) size radius lent sum (λ e. e)
+input-fits m psf gray dots table s (size, (radius, (_, (_, (exact, (sum, (dot, _))))))) =
+    halftone-by (m .width) (m .height) (m .radius) psf gray dots (length table) size radius exact sum (λ e. e)
     (record { each = none-above 1 dots dot })
 
 module _ (m : Measures) (psf gray dots : List ℕ) (table : List ℤ) (s : Stats) where
@@ -52,11 +52,11 @@ module _ (m : Measures) (psf gray dots : List ℕ) (table : List ℤ) (s : Stats
   unfolding badTable wrongStats
   later-fits named alike a b e =
       let state : List Refusal = stateRefusals m psf gray dots table s ++ alike in
-      let (size, (radius, (reach, (kind, (lent, (sum, (dot, rest)))))))
+      let (size, (radius, (reach, (kind, (exact, (sum, (dot, rest)))))))
       = none (later m psf gray dots table s named alike) (numbered-append named state a b) refl e in
       let (cells, (entry, (figures, like))) = none-append named state rest in
       let fits
-      = input-fits m psf gray dots table s (size, (radius, (reach, (kind, (lent, (sum, (dot, tt))))))) in (
+      = input-fits m psf gray dots table s (size, (radius, (reach, (kind, (exact, (sum, (dot, tt))))))) in (
         record {
           reach-near = ltb-false 6 (m .reach) reach;
           kind-known = ltb-false 2 (m .start) kind;
@@ -70,7 +70,7 @@ module _ (m : Measures) (psf gray dots : List ℕ) (table : List ℤ) (s : Stats
   pub fits-later : LaterFits m psf gray dots table s → laterRefusal m psf gray dots table s ≡ 0
   unfolding laterRefusal
   fits-later f =
-      let (size, (radius, (lent, (sum, (dot, _)))))
+      let (size, (radius, (exact, (sum, (dot, _)))))
       = halftone-none (m .width) (m .height) (m .radius) psf gray dots (length table) (f .halftone) in
       drawn-none (later m psf gray dots table s [] []) (
         size,
@@ -80,7 +80,7 @@ module _ (m : Measures) (psf gray dots : List ℕ) (table : List ℤ) (s : Stats
             le-ltb 6 (m .reach) (f .reach-near),
             (
               le-ltb 2 (m .start) (f .kind-known),
-              (lent, (sum, (dot, state-accepted t dots table s (f .state)))),
+              (exact, (sum, (dot, state-accepted t dots table s (f .state)))),
             ),
           ),
         ),
@@ -92,7 +92,7 @@ module _ (m : Measures) (psf gray dots : List ℕ) (table : List ℤ) (s : Stats
   unfolding toggleRefusal
   toggle-enters row col e =
       let (fits, (cell, _), _) = later-fits (badCell (m .width) (m .height) row col ∷ []) [] tt tt e in
-      let (r, c) = on-plate (m .width) (m .height) row col cell in
+      let (r, c) = cell-inside (m .width) (m .height) row col cell in
       (fits, r, c)
 
   -- a swap that is not refused
@@ -109,5 +109,5 @@ module _ (m : Measures) (psf gray dots : List ℕ) (table : List ℤ) (s : Stats
       let y : ℕ = getD dots (cellAt (m .width) row′ col′) 0 in
       let (fits, drawn, (like, _))
       = later-fits named (badLike dots (cellAt (m .width) row col) (cellAt (m .width) row′ col′) ∷ []) tt tt e in
-      let (one, other) = both-on-plate (m .width) (m .height) (m .reach) row col row′ col′ drawn in
+      let (one, other) = cells-inside (m .width) (m .height) (m .reach) row col row′ col′ drawn in
       (fits, one, other, eqb-false x y like)

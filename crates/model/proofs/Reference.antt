@@ -20,10 +20,11 @@ use Rattle.model.specs.Psf.{total}
 use Rattle.model.specs.Error.{Target, cells, filteredErrors, squaredError, mostSquared}
 use Rattle.model.specs.Refusal.{HalftoneFits}
 use Rattle.model.specs.State.{dotTotal, changes, StateFits}
+use Rattle.model.specs.Change.{flipped}
 use Rattle.model.specs.Reference.{Count, onCount, offCount, swapCount, ofOn, ofOff, ofSwaps}
 use Rattle.model.specs.Reference.{Setting, Move, made, toggle, swap, reference, accept, statsOf, change}
 use Rattle.model.proofs.Error.{squared-nonneg}
-use Rattle.model.proofs.Turn.{flipped, two, toggle-sets, toggle-made}
+use Rattle.model.proofs.Turn.{two, toggle-sets, toggle-made}
 use Rattle.model.proofs.Change.{Placed, change-least}
 
 -- ---- one store

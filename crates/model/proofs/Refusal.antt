@@ -144,8 +144,8 @@ unfolding autocorrelationRefusal
 autocorrelation-fits r psf out e =
     let cells : ℕ = (4 * r + 1) * (4 * r + 1) in
     let slices : List Refusal = badLength r psf cells (out ∷ []) ∷ badSum psf ∷ [] in
-    let (radius, (lent, (sum, _))) = none (badRadius r ∷ slices) tt refl e in
-    let (p-is, (o-is, _)) = alike ((2 * r + 1) * (2 * r + 1)) cells (length psf) (out ∷ []) lent in
+    let (radius, (exact, (sum, _))) = none (badRadius r ∷ slices) tt refl e in
+    let (p-is, (o-is, _)) = alike ((2 * r + 1) * (2 * r + 1)) cells (length psf) (out ∷ []) exact in
     (psf-by r psf radius p-is sum, o-is)
 
 -- a plate by its conditions; the n dots that were judged may have given way to others, as many
@@ -157,10 +157,10 @@ pub halftone-by : (w h r : ℕ) (psf gray dots : List ℕ) (table : ℕ) {n : �
     → (n ≡ h * w → length dots ≡ h * w)
     → AtMost 1 dots
     → HalftoneFits w h r psf gray dots table
-halftone-by w h r psf gray dots table {n} size radius lent sum long bits =
+halftone-by w h r psf gray dots table {n} size radius exact sum long bits =
     let (w-inside, h-inside) = size-inside w h size in
     let lengths : List ℕ = length gray ∷ n ∷ table ∷ [] in
-    let (p-is, (g-is, (d-is, (t-is, _)))) = alike ((2 * r + 1) * (2 * r + 1)) (h * w) (length psf) lengths lent in
+    let (p-is, (g-is, (d-is, (t-is, _)))) = alike ((2 * r + 1) * (2 * r + 1)) (h * w) (length psf) lengths exact in
     record {
       wide = w-inside;
       high = h-inside;
@@ -179,8 +179,8 @@ unfolding halftoneRefusal
 halftone-fits w h r psf gray dots table e =
     let lengths : List ℕ = length gray ∷ length dots ∷ table ∷ [] in
     let slices : List Refusal = badLength r psf (h * w) lengths ∷ badSum psf ∷ badDot dots ∷ [] in
-    let (size, (radius, (lent, (sum, (dot, _))))) = none (badSize w h ∷ badRadius r ∷ slices) tt refl e in
-    halftone-by w h r psf gray dots table size radius lent sum (λ e. e) (record { each = none-above 1 dots dot })
+    let (size, (radius, (exact, (sum, (dot, _))))) = none (badSize w h ∷ badRadius r ∷ slices) tt refl e in
+    halftone-by w h r psf gray dots table size radius exact sum (λ e. e) (record { each = none-above 1 dots dot })
 
 -- a plate that fits draws none of 1, 2, 5, 6 and 7
 pub halftone-none : (w h r : ℕ) (psf gray dots : List ℕ) (table : ℕ) → HalftoneFits w h r psf gray dots table
@@ -222,14 +222,14 @@ module _ (m : Measures) (psf gray dots : List ℕ) (table : ℕ) (taken : startR
 
   pub start-given : length dots ≡ m .height * m .width
   start-given =
-      let (_, (_, (_, (_, (lent, _))))) = drawn in
+      let (_, (_, (_, (_, (exact, _))))) = drawn in
       let side : ℕ = 2 * m .radius + 1 in
-      alike (side * side) (m .height * m .width) (length psf) lengths lent .1 .1 .0
+      alike (side * side) (m .height * m .width) (length psf) lengths exact .1 .1 .0
 
   pub start-fits : HalftoneFits (m .width) (m .height) (m .radius) psf gray (startDots m gray dots) table
   start-fits =
-      let (size, (radius, (reach, (kind, (lent, (sum, (dot, _))))))) = drawn in
-      halftone-by (m .width) (m .height) (m .radius) psf gray (startDots m gray dots) table size radius lent sum
+      let (size, (radius, (reach, (kind, (exact, (sum, (dot, _))))))) = drawn in
+      halftone-by (m .width) (m .height) (m .radius) psf gray (startDots m gray dots) table size radius exact sum
       (start-long m gray dots) (start-bits m gray dots (λ k. given (m .start) (ltb-false 2 (m .start) kind) k dot))
     where
       given : (k : ℕ) → k ≤ 2 → 2 ≤ k → eqb k 2 && above 1 dots ≡ false → AtMost 1 dots

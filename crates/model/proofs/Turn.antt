@@ -10,16 +10,12 @@ use lib.IntN.{pos, negsuc, _-ℤ_, _*ℤ_}
 use lib.ListN.{getD, set}
 use lib.Seq.{getD-set-other}
 use Rattle.model.specs.Basic.{pick, AtMost}
-use Rattle.model.specs.Change.{sign}
+use Rattle.model.specs.Change.{signOf, sign, flipped}
 use Rattle.model.specs.Reference.{Setting, made, toggle, swap}
 
 -- the store that turns the dot of m
 abbrev pub turns : List ℕ → ℕ → Setting
 turns dots m = record { cell = m; byte = 1 - getD dots m 0 }
-
--- the dots with that of m turned
-abbrev pub flipped : List ℕ → ℕ → List ℕ
-flipped dots m = set dots m (1 - getD dots m 0)
 
 -- a byte that is 0 or 1 is not 2 or more
 pub two : (n : ℕ) → suc (suc n) ≤ 1 → ⊥
@@ -40,7 +36,7 @@ module _ (dots : List ℕ) where
 
   module _ (bits : AtMost 1 dots) where
     -- what the other byte adds is s(m)
-    other : (x : ℕ) → x ≤ 1 → pos (1 - x) -ℤ pos x ≡ pick (eqb x 0) (pos 1) (negsuc 0)
+    other : (x : ℕ) → x ≤ 1 → pos (1 - x) -ℤ pos x ≡ signOf x
     other zero h = refl
     other (suc zero) h = refl
     other (suc (suc x)) h = absurd (two x h)

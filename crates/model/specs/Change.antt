@@ -1,20 +1,24 @@
--- One change, by document 01's formulas: what a toggle and a swap add to E, from T at the cells, the peak P and c, and
--- the ledger on acceptance. That each sum is E of the changed copy less E before is a law (`toggle-change`,
--- `swap-change` of proofs/Change.antt), for every step u in place of 255.
+-- One change, by document 01's formulas: what a toggle and a swap add to E, from T at the cells, the peak P and c; and
+-- on acceptance a dot turned and the ledger. That each sum is E of the changed copy less E before is a law
+-- (`toggle-change`, `swap-change` of proofs/Change.antt), for every step u in place of 255.
 use mathlib.Core.List.{List}
-use Prim.Native.Nat.{ℕ, _+_, _*_}
+use Prim.Native.Nat.{ℕ, _+_, _*_, _-_}
 use lib.Dec.{eqb}
 use lib.IntN.{ℤ, pos, negsuc, _+ℤ_, _-ℤ_, _*ℤ_}
-use lib.ListN.{getD}
+use lib.ListN.{getD, set}
 use Rattle.model.specs.declared.Stats.{Stats}
 use Rattle.model.specs.Basic.{pick}
 use Rattle.model.specs.Psf.{peak}
 use Rattle.model.specs.Error.{Target, kernel, filteredError}
 use Rattle.model.specs.Reference.{Count, ofOn, ofOff, ofSwaps}
 
--- s(m): +1 at a blank, -1 at a dot
+-- +1 for a blank, -1 for a dot
+abbrev pub signOf : (dot : ℕ) → ℤ
+signOf dot = pick (eqb dot 0) (pos 1) (negsuc 0)
+
+-- s(m)
 abbrev pub sign : List ℕ → ℕ → ℤ
-sign dots m = pick (eqb (getD dots m 0) 0) (pos 1) (negsuc 0)
+sign dots m = signOf (getD dots m 0)
 
 -- a toggle: u × (2 × s(m) × T(m) + u × P)
 unfoldable pub toggleSum : (u : ℕ) (P s Tm : ℤ) → ℤ
@@ -35,7 +39,11 @@ module _ (t : Target) (dots : List ℕ) where
       swapSum (t .step) (peak (t .radius) (t .psf)) (kernel t m n) (sign dots m)
       (filteredError t dots m) (filteredError t dots n)
 
--- ---- the ledger on acceptance
+-- ---- on acceptance
+-- the dots with that of m turned
+abbrev pub flipped : List ℕ → ℕ → List ℕ
+flipped dots m = set dots m (1 - getD dots m 0)
+
 -- E now gains the change, and each count rises by so many
 abbrev pub raised : Stats → (change : ℤ) (on off swaps : ℕ) → Stats
 raised s change on off swaps =

@@ -16,13 +16,13 @@ use Rattle.model.specs.Error.{Target, targetOf, cellAt, mostSquared, cells, ker
 use Rattle.model.specs.Window.{addWindow, Small, HoldsKernel, mostFiltered}
 use Rattle.model.specs.Refusal.{HalftoneFits}
 use Rattle.model.specs.State.{LaterFits}
-use Rattle.model.specs.Change.{sign, toggleSum, swapSum}
+use Rattle.model.specs.Change.{sign, flipped, toggleSum, swapSum}
 use Rattle.model.specs.Reference.{made, toggle, swap, change}
 use Rattle.model.proofs.Basic.{getD-tabulate}
 use Rattle.model.proofs.Error.{filtered-long}
 use Rattle.model.proofs.Window.{square-small}
 use Rattle.model.proofs.Halftone.{filtered-small, squared-least, squared-most}
-use Rattle.model.proofs.Turn.{turns, flipped}
+use Rattle.model.proofs.Turn.{turns}
 use Rattle.model.proofs.Change.{toggle-change, swap-change, flip-table}
 use Rattle.model.proofs.Reference.{halftone-made}
 

@@ -12,7 +12,7 @@ use Rattle.model.specs.Error.{cellAt}
 use Rattle.model.specs.Refusal.{Refusal, firstOf, badCells, badPair, HalftoneFits}
 use Rattle.model.specs.State.{badTable, wrongStats, badLike, inputRefusals, stateRefusals, swapRefusal}
 use Rattle.model.proofs.Refusal.{none, by-first, by-either, by-second}
-use Rattle.model.proofs.Later.{both-on-plate, input-fits}
+use Rattle.model.proofs.Later.{cells-inside, input-fits}
 use Rattle.window.proofs.Rows.{index-fits}
 use Rattle.search.proofs.judge_swap.Statement.{statement}
 use Rattle.search.proofs.judge_swap.Tie as tie
@@ -96,7 +96,7 @@ module _ (c : tie.Else2) where
 
   on : ((a .args .row < a .args .measures .height) × (a .args .col < a .args .measures .width))
       × ((a .args .row2 < a .args .measures .height) × (a .args .col2 < a .args .measures .width))
-  on = both-on-plate _ _ (a .args .measures .reach) _ _ _ _ (none (named a) tt (named-is (c .before)) (c .if2 .left))
+  on = cells-inside _ _ (a .args .measures .reach) _ _ _ _ (none (named a) tt (named-is (c .before)) (c .if2 .left))
 
 judge-state-requires : tie.Need-judge-state-requires
 judge-state-requires c κs = fits c

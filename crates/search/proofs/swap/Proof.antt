@@ -19,9 +19,9 @@ use Rattle.model.specs.Reference.{Move, swap, change}
 use Rattle.model.specs.Refusal.{HalftoneFits}
 use Rattle.model.specs.State.{LaterFits}
 use Rattle.model.specs.Window.{Small, mostFiltered}
-use Rattle.model.specs.Change.{sign, swapSum}
+use Rattle.model.specs.Change.{sign, flipped, swapSum}
 use Rattle.model.proofs.Attempts.{attempt-declined, attempt-accepted}
-use Rattle.model.proofs.Turn.{flipped, swap-made}
+use Rattle.model.proofs.Turn.{swap-made}
 use Rattle.model.proofs.Halftone.{filtered-small}
 use Rattle.model.proofs.State.{at-least, below}
 use Rattle.window.proofs.Rows.{index-fits}
