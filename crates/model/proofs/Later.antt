@@ -25,7 +25,7 @@ cell-inside w h row col e =
       ltb→lt col w (subst T (sym (not-false (ltb col w) c)) tt),
     )
 
--- two cells, neither of which is
+-- two cells, neither of which is off the plate
 pub cells-inside : (w h reach row col row′ col′ : ℕ)
     → None (badCells w h row col row′ col′ ∷ badPair reach row col row′ col′ ∷ [])
     → ((row < h) × (col < w)) × ((row′ < h) × (col′ < w))
@@ -33,7 +33,7 @@ cells-inside w h reach row col row′ col′ drawn =
     let (one, other) = neither (off w h row col) (off w h row′ col′) (drawn .0) in
     (cell-inside w h row col one, cell-inside w h row′ col′ other)
 
--- 1 to 7 are not drawn
+-- what was handed in where 1 to 7 are not drawn
 pub input-fits : (m : Measures) (psf gray dots : List ℕ) (table : List ℤ) (s : Stats)
     → None (inputRefusals m psf gray dots table s)
     → HalftoneFits (m .width) (m .height) (m .radius) psf gray dots (length table)
