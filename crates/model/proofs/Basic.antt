@@ -1,5 +1,5 @@
--- Laws of the general definitions: a choice, a bounded list, a list by its entries, a list that a loop fills, and an
--- entry of a square, inside it and outside.
+-- Laws of the general definitions: a choice, what holds of every entry of a list, a bounded list, a list by its
+-- entries, a list that a loop fills, and an entry of a square, inside it and outside.
 use mathlib.Core.Path.{_≡_, refl, sym, _∙_, ap, ap₂, subst}
 use mathlib.Core.Bool.{Bool, true, false}
 use mathlib.Core.Logic.{_⊎_, inl, inr}
@@ -28,6 +28,17 @@ pick-yes false x y t = absurd t
 pick-no {ℓ} : {A : Type ℓ} (b : Bool) (x y : A) → (T b → ⊥) → pick b x y ≡ y
 pick-no true x y t = absurd (t tt)
 pick-no false x y t = refl
+
+-- by what is known of its test
+pub pick-cases : {A : Type 0} (Q : A → Type 0) (b : Bool) {x y : A} → (b ≡ true → Q x) → (b ≡ false → Q y)
+    → Q (pick b x y)
+pick-cases Q true f g = f refl
+pick-cases Q false f g = g refl
+
+-- ---- what holds of every entry of a list
+abbrev pub All : {A : Type 0} → (A → Type 0) → List A → Type 0
+All P [] = Unit {0}
+All P (x ∷ l) = P x × All P l
 
 -- ---- a bounded list
 pub at-most-tail : {k x : ℕ} {l : List ℕ} → AtMost k (x ∷ l) → AtMost k l

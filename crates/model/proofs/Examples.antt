@@ -5,16 +5,21 @@ use Rattle.model.specs.Basic.{tabulate, gridAt, squareAt}
 use Rattle.model.specs.Psf.{total, psfAt, autocorrelation}
 use Rattle.model.specs.Error.{kernel, error, filteredError, filteredErrors, squaredError}
 use Rattle.model.specs.Screen.{bayer, thresholdAt, ordered, startDots}
-use Rattle.model.specs.Refusal.{above}
-use Rattle.model.specs.State.{someBelow, badTable, wrongStats, toggleRefusal, swapRefusal}
+use Rattle.model.specs.Refusal.{above, startRefusal}
+use Rattle.model.specs.State.{someBelow, freshStats, badTable, wrongStats}
+use Rattle.model.specs.State.{laterRefusal, toggleRefusal, swapRefusal}
 use Rattle.model.specs.Reference.{made, toggle, swap, accept, statsOf, change, attempt}
-use Rattle.model.specs.Calls.{attemptCall, toggleCall, swapCall}
+use Rattle.model.specs.Partners.{offsetsOf, offsetsFrom, offsets}
+use Rattle.model.specs.Scan.{toggles, swapsBy, tryEach, sweepTo, convergeIn, convergeFrom, converge}
+use Rattle.model.specs.Calls.{laterCall, startCall, toggleCall, swapCall, convergeCall}
 use Rattle.model.specs.Examples.{Examples}
 
 pub examples : Examples
 unfolding sumTo sumFrom tabulate gridAt squareAt psfAt autocorrelation kernel error filteredError filteredErrors
     squaredError total bayer thresholdAt ordered startDots above someBelow badTable wrongStats toggleRefusal swapRefusal
-    made toggle swap accept statsOf change attempt attemptCall toggleCall swapCall
+    made toggle swap accept statsOf change attempt laterCall toggleCall swapCall
+    laterRefusal startRefusal freshStats startCall offsetsOf offsetsFrom offsets toggles swapsBy tryEach sweepTo
+    convergeIn convergeFrom converge convergeCall
 examples =
     record {
       black-blank = refl;
@@ -31,6 +36,7 @@ examples =
       pair-dot-table = refl;
       pair-dot-error = refl;
       pair-swap = refl;
+      pair-converges = refl;
       lopsided-at-0 = refl;
       lopsided-right = refl;
       lopsided-left = refl;
@@ -40,4 +46,6 @@ examples =
       threshold-1-1 = refl;
       ordered-127 = refl;
       ordered-128 = refl;
+      worked-start = refl;
+      worked-converges = refl;
     }

@@ -1,6 +1,6 @@
 -- The later calls: what one was handed that draws no refusal, and that nothing of 1 to 7, 20 and 21 is drawn by it.
 use mathlib.Core.Bool.{false, not}
-use mathlib.Core.Path.{_≡_, refl, sym, subst}
+use mathlib.Core.Path.{_≡_, refl, sym, _∙_, subst}
 use mathlib.Core.List.{List, [], _∷_, _++_}
 use borrow.Author.Tests.{ltb-false, le-ltb, eqb-false, not-false}
 use lib.Dec.{T, ltb, ltb→lt}
@@ -13,7 +13,7 @@ use Rattle.model.specs.Error.{Target, targetFor, cellAt}
 use Rattle.model.specs.Refusal.{Refusal, firstOf, off, badCell, badCells, badPair, HalftoneFits}
 use Rattle.model.specs.State.{badTable, wrongStats, badLike, inputRefusals, stateRefusals, later, LaterFits}
 use Rattle.model.specs.State.{laterRefusal, toggleRefusal, swapRefusal}
-use Rattle.model.proofs.Refusal.{numbered, numbered-append, None, none, none-append, drawn-none, neither}
+use Rattle.model.proofs.Refusal.{numbered, numbered-append, None, none, none-append, first-passes, neither}
 use Rattle.model.proofs.Refusal.{none-above, halftone-by, halftone-none}
 use Rattle.model.proofs.State.{state-accepted, state-known}
 
@@ -67,24 +67,36 @@ module _ (m : Measures) (psf gray dots : List ℕ) (table : List ℤ) (s : Stats
         like,
       )
 
+  -- of what fits, only the cells that the call names and their dots draw anything
+  pub later-draws : LaterFits m psf gray dots table s → (named alike : List Refusal)
+      → firstOf (later m psf gray dots table s named alike) ≡ firstOf (named ++ alike)
+  later-draws f named alike =
+      let state : List Refusal = stateRefusals m psf gray dots table s in
+      first-passes [] (inputRefusals m psf gray dots table s) (named ++ (state ++ alike)) input
+      ∙ first-passes named state alike (state-accepted t dots table s (f .state))
+    where
+      input : None (inputRefusals m psf gray dots table s)
+      input =
+          let (size, (radius, (exact, (sum, (dot, _)))))
+          = halftone-none (m .width) (m .height) (m .radius) psf gray dots (length table) (f .halftone) in (
+            size,
+            (
+              radius,
+              (
+                le-ltb 6 (m .reach) (f .reach-near),
+                (le-ltb 2 (m .start) (f .kind-known), (exact, (sum, (dot, tt)))),
+              ),
+            ),
+          )
+
   pub fits-later : LaterFits m psf gray dots table s → laterRefusal m psf gray dots table s ≡ 0
   unfolding laterRefusal
-  fits-later f =
-      let (size, (radius, (exact, (sum, (dot, _)))))
-      = halftone-none (m .width) (m .height) (m .radius) psf gray dots (length table) (f .halftone) in
-      drawn-none (later m psf gray dots table s [] []) (
-        size,
-        (
-          radius,
-          (
-            le-ltb 6 (m .reach) (f .reach-near),
-            (
-              le-ltb 2 (m .start) (f .kind-known),
-              (exact, (sum, (dot, state-accepted t dots table s (f .state)))),
-            ),
-          ),
-        ),
-      )
+  fits-later f = later-draws f [] []
+
+  -- a call that names no cell and is not refused
+  pub later-enters : laterRefusal m psf gray dots table s ≡ 0 → LaterFits m psf gray dots table s
+  unfolding laterRefusal
+  later-enters e = later-fits [] [] tt tt e .0
 
   -- a toggle that is not refused
   pub toggle-enters : (row col : ℕ) → toggleRefusal m psf gray dots table s row col ≡ 0

@@ -6,6 +6,7 @@ pub mod Window
 pub mod Screen
 pub mod Refusal
 pub mod Turn
+pub mod Partners
 pub mod Change
 pub mod Halftone
 pub mod State
@@ -14,5 +15,10 @@ pub mod Calls
 pub mod Start
 pub mod Reference
 pub mod Attempts
+pub mod Scan
+pub mod Loop
+pub mod Rest
+pub mod Converge
+pub mod Lists
 pub mod Examples
 pub mod Promises

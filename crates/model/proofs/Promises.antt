@@ -1,33 +1,39 @@
 -- The promises of document 01 that are due so far, each proved by citing the law that does the work. That the public
 -- calls answer and leave just this stands in their contracts (src/lib.rt of crates/filter, crates/starts and
 -- crates/search), which cite the same definitions.
-use mathlib.Core.Path.{_≡_, refl, sym, _∙_, subst}
+use mathlib.Core.Path.{_≡_, refl, sym, _∙_, ap, subst}
 use mathlib.Core.Logic.{_⊎_, inl, inr}
-use mathlib.Core.List.{List, [], _∷_, filter}
-use Prim.Native.Nat.{ℕ, _+_, _*_, _≤_, _<_}
+use mathlib.Core.List.{List, [], _∷_, _++_, filter}
+use Prim.Native.Nat.{ℕ, _+_, _*_, _-_, _≤_, _<_}
 use native.Mathlib.Decide.{ℕ-discrete}
+use native.Mathlib.Omega.{arith}
+use lib.Dec.{lit≤}
 use lib.IntN.{ℤ, pos, negℤ, natAbs, _+ℤ_, _-ℤ_, _*ℤ_}
 use lib.Signed.{_≤ℤ_, _<ℤ_}
 use lib.ListN.{length, getD}
 use Rattle.algebra.specs.Sum.{sumFrom, sumOver}
 use Rattle.algebra.specs.Quadratic.{Increment, Within, edited}
-use Rattle.algebra.proofs.Grid.{cell<}
 use Rattle.model.specs.declared.Measures.{Measures}
 use Rattle.model.specs.declared.Stats.{Stats}
+use Rattle.model.specs.declared.ConvergeResult.{ConvergeResult}
 use Rattle.model.specs.Basic.{AtMost}
 use Rattle.model.specs.Psf.{total, autocorrelation, peak}
 use Rattle.model.specs.Error.{Target, targetOf, targetFor, cellAt, cells, kernel, error}
 use Rattle.model.specs.Error.{filteredError, filteredErrors, squaredError, perceivedSquares}
 use Rattle.model.specs.Refusal.{firstOf, halftoneRefusal, startRefusal, HalftoneFits}
-use Rattle.model.specs.State.{freshStats, badTable, badStats, wrongStats, StateFits, LaterFits}
+use Rattle.model.specs.State.{dotTotal, freshStats, badTable, badStats, wrongStats, StateFits, LaterFits}
 use Rattle.model.specs.State.{laterRefusal, toggleRefusal, swapRefusal}
 use Rattle.model.specs.Change.{sign, toggleSum, swapSum, counted}
-use Rattle.model.specs.Reference.{Move, made, toggle, swap, reference, accept, Tried, accepted, declined}
-use Rattle.model.specs.Reference.{change, attempt}
+use Rattle.model.specs.Reference.{Move, made, toggle, swap, Reference, reference, accept, statsOf}
+use Rattle.model.specs.Reference.{Tried, accepted, declined, change, attempt}
+use Rattle.model.specs.Scan.{Convergence, turn, convergeFrom, converge}
 use Rattle.model.specs.Screen.{startDots}
-use Rattle.model.specs.Calls.{result, statsAfter, Buffers, withTable, startCall}
-use Rattle.model.specs.Calls.{attemptCall, toggleCall, swapCall}
+use Rattle.model.specs.Calls.{Reply, result, statsAfter, Outcome, Buffers, withTable, startCall}
+use Rattle.model.specs.Calls.{laterCall, toggleCall, swapCall}
+use Rattle.model.specs.Lists.{Call, convergence, Result, rested, Held, handOn, call, run}
+use Rattle.model.specs.Lists.{begin, acceptedBy, referenceCall, referenceRun, Expected, Rest}
 use Rattle.model.specs.Examples.{Examples}
+use Rattle.model.proofs.Basic.{All}
 use Rattle.model.proofs.Psf.{autocorrelation-even, autocorrelation-supported}
 use Rattle.model.proofs.Psf.{autocorrelation-nonneg, autocorrelation-total}
 use Rattle.model.proofs.Error.{filtered-edit, squared-edit, squared-perceived}
@@ -36,10 +42,16 @@ use Rattle.model.proofs.Halftone.{filtered-most, squared-least, squared
 use Rattle.model.proofs.Calls.{was-done}
 use Rattle.model.proofs.State.{dots-counted, state-accepted, state-known}
 use Rattle.model.proofs.Start.{start-state, start-later}
-use Rattle.model.proofs.Later.{fits-later, toggle-enters, swap-enters}
+use Rattle.model.proofs.Later.{fits-later, later-enters}
 use Rattle.model.proofs.Change.{Placed, toggle-change, swap-change, change-least}
-use Rattle.model.proofs.Reference.{Legal, toggle-legal, swap-legal}
-use Rattle.model.proofs.Attempts.{attempt-cases, attempt-later, counted-is}
+use Rattle.model.proofs.Reference.{Legal}
+use Rattle.model.proofs.Attempts.{toggle-ready, swap-ready, attempt-cases, attempt-later, counted-is}
+use Rattle.model.proofs.Attempts.{Sound}
+use Rattle.model.proofs.Partners.{Ordered, offsets-ordered}
+use Rattle.model.proofs.Scan.{Halftone, start-kept, sound-halftone}
+use Rattle.model.proofs.Converge.{converge-rule, converge-only}
+use Rattle.model.proofs.Converge.{converge-scans, converge-counts, converge-rest}
+use Rattle.model.proofs.Lists.{heldOf, call-same, call-later, Alike, run-same, run-expected}
 use Rattle.model.proofs.Examples.{examples}
 
 -- ---- the autocorrelation, of any psf
@@ -256,9 +268,9 @@ module _ (m : Measures) (psf gray dots : List ℕ) (table : List ℤ) (s : Stats
   -- the call of an attempt that is legal once it is not refused
   by-call : (number : ℕ) (v : Move) (answer : Tried)
       → (number ≡ 0 → LaterFits m psf gray dots table s × Legal (length dots) dots v)
-      → attemptCall number T dots table (attempt T (reference dots s) v) .reply ≡ result answer
-      → Tries v answer (attemptCall number T dots table (attempt T (reference dots s) v) .buffer)
-  unfolding attemptCall
+      → laterCall number T dots table (attempt T (reference dots s) v) .reply ≡ result answer
+      → Tries v answer (laterCall number T dots table (attempt T (reference dots s) v) .buffer)
+  unfolding laterCall
   by-call number v answer enters e =
       let (taken, value, same) = was-done _ _ number refl e in
       let (fits, legal) = enters taken in
@@ -270,9 +282,8 @@ module _ (m : Measures) (psf gray dots : List ℕ) (table : List ℤ) (s : Stats
       → Tries (toggle dots (cellAt (m .width) row col)) answer (toggleCall m psf gray dots table s row col .buffer)
   unfolding toggleCall
   toggle-tries row col answer =
-      by-call (toggleRefusal m psf gray dots table s row col) (toggle dots (cellAt (m .width) row col)) answer (λ taken.
-      let (fits, r, c) = toggle-enters m psf gray dots table s row col taken in
-      (fits, toggle-legal dots (fits .halftone .bits) _ (rw (fits .halftone .dots-length) (cell< r c))))
+      by-call (toggleRefusal m psf gray dots table s row col) (toggle dots (cellAt (m .width) row col)) answer
+      (toggle-ready m psf gray dots table s row col)
 
   pub swap-tries : (row col row′ col′ : ℕ) (answer : Tried)
       → swapCall m psf gray dots table s row col row′ col′ .reply ≡ result answer
@@ -281,10 +292,164 @@ module _ (m : Measures) (psf gray dots : List ℕ) (table : List ℤ) (s : Stats
   unfolding swapCall
   swap-tries row col row′ col′ answer =
       by-call (swapRefusal m psf gray dots table s row col row′ col′)
-      (swap dots (cellAt (m .width) row col) (cellAt (m .width) row′ col′)) answer (λ taken.
-      let (fits, (r, c), (r′, c′), unlike) = swap-enters m psf gray dots table s row col row′ col′ taken in
-      let long = fits .halftone .dots-length in
-      (fits, swap-legal dots (fits .halftone .bits) _ _ (rw long (cell< r c)) (rw long (cell< r′ c′)) unlike))
+      (swap dots (cellAt (m .width) row col) (cellAt (m .width) row′ col′)) answer
+      (swap-ready m psf gray dots table s row col row′ col′)
+
+-- ---- scans and settling
+-- the partners of a swap scan: exactly the offsets within reach save (0,0), each once, in document 01's order
+pub partners-are-ordered : (reach : ℕ) → reach ≤ 6 → Ordered reach
+partners-are-ordered = offsets-ordered
+
+-- settling, of any target and step
+module _ (t : Target) (reach : ℕ) (wide : 0 < t .width) where
+  -- it keeps to its rule: toggle scans until one accepts nothing, then one swap scan; if that accepted something, again
+  pub convergence-keeps-to-rule : (p : Reference) (n : ℕ)
+      → convergeFrom t reach p n ≡ turn t reach (convergeFrom t reach) p n
+  convergence-keeps-to-rule = converge-rule t reach wide
+
+  -- and nothing else does
+  pub nothing-else-keeps-to-rule : (f : Reference → ℕ → Convergence)
+      → ((p : Reference) (n : ℕ) → Halftone t (p .dots) → f p n ≡ turn t reach f p n)
+      → (p : Reference) (n : ℕ) → Halftone t (p .dots)
+      → f p n ≡ convergeFrom t reach p n
+  nothing-else-keeps-to-rule = converge-only t reach wide
+
+-- ---- lists of calls: demand 3
+module _ (m : Measures) (psf gray : List ℕ) where
+  -- what a settling answers and leaves, the reference before it being this
+  pub record ComesToRest (before : Reference) (o : Outcome Result Buffers) : Type 0 where
+    -- it is not refused
+    pub answer : ConvergeResult
+    pub is-answered : o .reply ≡ result (rested answer)
+    -- it ends at rest: no toggle lowers E, no swap within reach lowers E, twice the table is at most 255 × P under
+    -- every dot and at least -255 × P under every blank
+    pub is-at-rest : Rest (targetFor m psf gray) (m .reach) (o .buffer .dots) (o .buffer .table)
+    -- its scans are at most 2 × its accepted changes + 2
+    pub scans-are-few : (let after = referenceCall m psf gray before convergence .after in
+        answer .scans ≤ 2 * (acceptedBy after - acceptedBy before) + 2)
+
+  -- what holds after a list of calls, from the dots, table and ledger of a start whose dots are `first`
+  module _ (first : List ℕ) (begun : Held) (l : List Call) where
+    abbrev answers : List (Reply Result)
+    answers = run m psf gray begun l .0
+
+    abbrev left : Held
+    left = run m psf gray begun l .1
+
+    -- the plain plate's answers, and what it holds
+    abbrev referenceAnswers : List (Reply Result)
+    referenceAnswers = referenceRun m psf gray (begin (targetFor m psf gray) first) l .0
+
+    abbrev reached : Reference
+    reached = referenceRun m psf gray (begin (targetFor m psf gray) first) l .1
+
+    pub record Demand3 : Type 0 where
+      -- table and E now are as worked out afresh
+      pub table-is-fresh : left .table ≡ filteredErrors (targetFor m psf gray) (left .dots)
+      pub error-is-fresh : left .stats .error ≡ squaredError (targetFor m psf gray) (left .dots)
+      -- dots, ledger and every answer are those of the plain plate, which has no table
+      pub dots-are-reference : left .dots ≡ reached .dots
+      pub stats-are-reference : left .stats ≡ statsOf (targetFor m psf gray) reached
+      pub answers-are-reference : answers ≡ referenceAnswers
+      -- the only refusals are 8, 9 and 22
+      pub refusals-are-expected : All Expected answers
+      -- dot total = first + on - off
+      pub dots-are-balanced : pos (dotTotal (left .dots))
+          ≡ pos (dotTotal first) +ℤ pos (left .stats .on) -ℤ pos (left .stats .off)
+      -- the fall is at least 255 × accepted changes
+      pub fall-is-enough : (pos 255 *ℤ pos (acceptedBy reached))
+          ≤ℤ (squaredError (targetFor m psf gray) first -ℤ squaredError (targetFor m psf gray) (left .dots))
+      -- every settling in it ends at rest, within 2 × accepted + 2 scans
+      pub convergences-end-at-rest : (before rest : List Call) → l ≡ before ++ (convergence ∷ rest)
+          → ComesToRest (referenceRun m psf gray (begin (targetFor m psf gray) first) before .1)
+          (call m psf gray (run m psf gray begun before .1) convergence)
+
+  -- beside a reference that later calls accept, a settling is not refused
+  comes-to-rest : (p : Reference) → Sound m psf gray p
+      → ComesToRest p (call m psf gray (heldOf (targetFor m psf gray) p) convergence)
+  unfolding converge
+  comes-to-rest p f =
+      let t = targetFor m psf gray in
+      let (reply, next) = call-same m psf gray p f convergence in
+      record {
+        answer = converge t (m .reach) p .answer;
+        is-answered = reply;
+        is-at-rest =
+            subst (λ h. Rest t (m .reach) (h .dots) (h .table)) (sym next)
+            (converge-rest t (m .reach) (f .halftone .wide .0) (lit≤ tt) (f .reach-near) p 0
+            (sound-halftone m psf gray p f));
+        scans-are-few =
+            omega (
+              arith,
+              converge-scans t (m .reach) (f .halftone .wide .0) p 0,
+              converge-counts t (m .reach) (f .halftone .wide .0) p 0,
+            );
+      }
+
+  module _ (first : List ℕ) (f : Sound m psf gray (begin (targetFor m psf gray) first)) where
+    abbrev From : Reference → Type 0
+    From p =
+        (p .start-error ≡ squaredError (targetFor m psf gray) first) × (p .start-dots ≡ dotTotal first)
+
+    beside : (l : List Call)
+        → Alike m psf gray From
+        (start-kept (targetFor m psf gray) (squaredError (targetFor m psf gray) first) (dotTotal first))
+        (run m psf gray (heldOf (targetFor m psf gray) (begin (targetFor m psf gray) first)) l)
+        (referenceRun m psf gray (begin (targetFor m psf gray) first) l)
+    unfolding begin
+    beside l = run-same m psf gray From _ (begin (targetFor m psf gray) first) l f (refl, refl)
+
+    from-start : (l : List Call)
+        → Demand3 first (heldOf (targetFor m psf gray) (begin (targetFor m psf gray) first)) l
+    unfolding statsOf
+    from-start l =
+        let t = targetFor m psf gray in
+        let r = beside l in
+        let p = referenceRun m psf gray (begin t first) l .1 in
+        let back = sym (r .held) in
+        record {
+          table-is-fresh = subst (λ h. h .table ≡ filteredErrors t (h .dots)) back refl;
+          error-is-fresh = subst (λ h. h .stats .error ≡ squaredError t (h .dots)) back refl;
+          dots-are-reference = ap (λ h. h .dots) (r .held);
+          stats-are-reference = ap (λ h. h .stats) (r .held);
+          answers-are-reference = r .answers;
+          refusals-are-expected = subst (All Expected) (sym (r .answers)) (run-expected m psf gray (begin t first) l);
+          dots-are-balanced =
+              subst (λ h.
+              pos (dotTotal (h .dots)) ≡ pos (dotTotal first) +ℤ pos (h .stats .on) -ℤ pos (h .stats .off)) back
+              (r .sound .state .total-is ∙ ap (λ d. pos d +ℤ pos (p .on) -ℤ pos (p .off)) (r .kept .1));
+          fall-is-enough =
+              subst (λ h. (pos 255 *ℤ pos (acceptedBy p)) ≤ℤ (squaredError t first -ℤ squaredError t (h .dots))) back
+              (subst (λ z. (pos 255 *ℤ pos (acceptedBy p)) ≤ℤ (z -ℤ squaredError t (p .dots))) (r .kept .0)
+              (r .sound .state .fall));
+          convergences-end-at-rest = λ before rest e.
+              subst (λ h.
+              ComesToRest (referenceRun m psf gray (begin t first) before .1) (call m psf gray h convergence))
+              (sym (beside before .held)) (comes-to-rest _ (beside before .sound));
+        }
+
+  -- for every list of calls from every start that was not refused
+  pub demand-3 : (dots : List ℕ) (table : List ℤ) (s : Stats) → AtMost 255 gray
+      → startCall m psf gray dots table .reply ≡ result s
+      → (l : List Call)
+      → (let begun = startCall m psf gray dots table .buffer in
+      Demand3 (startDots m gray dots) (record { dots = begun .dots; table = begun .table; stats = s }) l)
+  unfolding startCall begin statsOf freshStats
+  demand-3 dots table s bytes e l =
+      let first = startDots m gray dots in
+      let t = targetFor m psf gray in
+      let (taken, value, same) = was-done _ _ (startRefusal m psf gray dots (length table)) refl e in
+      subst (λ o.
+      Demand3 first (record { dots = o .buffer .dots; table = o .buffer .table; stats = s }) l) same
+      (subst (λ s. Demand3 first (record { dots = first; table = filteredErrors t first; stats = s }) l) value
+      (from-start first (start-later m psf gray dots (length table) bytes taken) l))
+
+  -- handed on as left, nothing draws 20 or 21, nor 1 to 7: from whatever a later call accepts, and whatever the call
+  pub left-is-accepted : (h : Held) (c : Call) → laterRefusal m psf gray (h .dots) (h .table) (h .stats) ≡ 0
+      → (let h′ = handOn h (call m psf gray h c) in laterRefusal m psf gray (h′ .dots) (h′ .table) (h′ .stats) ≡ 0)
+  left-is-accepted h c e =
+      fits-later m psf gray _ _ _
+      (call-later m psf gray h c (later-enters m psf gray (h .dots) (h .table) (h .stats) e))
 
 -- ---- the starred examples of document 01
 pub examples-hold : Examples

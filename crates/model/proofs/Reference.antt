@@ -52,12 +52,12 @@ pub record Legal (N : ℕ) (dots : List ℕ) (v : Move) : Type 0 where
   pub bits : Bits (v .sets)
   pub balance : dotTotal (made dots (v .sets)) + ofOff (v .raises) ≡ dotTotal dots + ofOn (v .raises)
 
-made-long : (dots : List ℕ) (l : List Setting) → length (made dots l) ≡ length dots
+pub made-long : (dots : List ℕ) (l : List Setting) → length (made dots l) ≡ length dots
 unfolding made
 made-long dots [] = refl
 made-long dots (x ∷ l) = made-long (set dots (x .cell) (x .byte)) l ∙ length-set dots (x .cell) (x .byte)
 
-made-bits : (dots : List ℕ) (l : List Setting) → Placed (length dots) l → Bits l → AtMost 1 dots
+pub made-bits : (dots : List ℕ) (l : List Setting) → Placed (length dots) l → Bits l → AtMost 1 dots
     → AtMost 1 (made dots l)
 unfolding made
 made-bits dots [] h k bits = bits
@@ -121,7 +121,7 @@ module _ (dots : List ℕ) (bits : AtMost 1 dots) where
       }
 
 -- ---- an accepted change: exactly one count rises by 1
-counts : (k : Count) (a b c : ℕ) → a + ofOn k + (b + ofOff k) + (c + ofSwaps k) ≡ suc (a + b + c)
+pub counts : (k : Count) (a b c : ℕ) → a + ofOn k + (b + ofOff k) + (c + ofSwaps k) ≡ suc (a + b + c)
 counts onCount a b c = omega arith
 counts offCount a b c = omega arith
 counts swapCount a b c = omega arith

@@ -51,6 +51,14 @@ none-append [] k h = (tt, h)
 none-append (n when b ∷ l) k h = let (a, c) = none-append l k (h .1) in ((h .0, a), c)
 
 -- the first of two lists, by those of each
+-- what is not drawn is passed over, wherever it stands
+pub first-passes : (l k j : List Refusal) → None k → firstOf (l ++ (k ++ j)) ≡ firstOf (l ++ j)
+first-passes [] [] j d = refl
+first-passes [] (n when true ∷ k) j d = absurd (true≢false (d .0))
+first-passes [] (n when false ∷ k) j d = first-passes [] k j (d .1)
+first-passes (n when true ∷ l) k j d = refl
+first-passes (n when false ∷ l) k j d = first-passes l k j d
+
 first-append : (l k : List Refusal) → T (numbered l) → either (firstOf l) (firstOf k) ≡ firstOf (l ++ k)
 first-append [] k t = refl
 first-append (zero when b ∷ l) k t = absurd t

@@ -13,12 +13,20 @@ use Rattle.model.specs.declared.Started.{Started}
 use Rattle.model.specs.declared.Started.the-variants as Started
 use Rattle.model.specs.declared.Attempt.{Attempt}
 use Rattle.model.specs.declared.Attempt.the-variants as Attempt
+use Rattle.model.specs.declared.ScanResult.{ScanResult}
+use Rattle.model.specs.declared.Scanned.{Scanned}
+use Rattle.model.specs.declared.Scanned.the-variants as Scanned
+use Rattle.model.specs.declared.ConvergeResult.{ConvergeResult}
+use Rattle.model.specs.declared.Converged.{Converged}
+use Rattle.model.specs.declared.Converged.the-variants as Converged
 use Rattle.model.specs.Psf.{autocorrelations}
 use Rattle.model.specs.Error.{Target, targetOf, targetFor, cellAt, filteredErrors, squaredError}
 use Rattle.model.specs.Refusal.{autocorrelationRefusal, halftoneRefusal, startRefusal}
 use Rattle.model.specs.Screen.{startDots}
-use Rattle.model.specs.State.{freshStats, toggleRefusal, swapRefusal}
-use Rattle.model.specs.Reference.{toggle, swap, reference, Tried, accepted, declined, Attempted, attempt}
+use Rattle.model.specs.State.{freshStats, laterRefusal, toggleRefusal, swapRefusal}
+use Rattle.model.specs.Reference.{toggle, swap, Reference, reference, accept}
+use Rattle.model.specs.Reference.{Tried, accepted, declined, Performed, attempt}
+use Rattle.model.specs.Scan.{toggles, swaps, scan, converge}
 
 -- what an answer says: a result, or document 01's number
 pub data Reply (A : Type 0) : Type 0 where
@@ -42,6 +50,14 @@ abbrev pub attempted : Attempt → Reply Tried
 attempted (Attempt.Accepted s d) = result (accepted s d)
 attempted (Attempt.Declined d) = result (declined d)
 attempted (Attempt.Refused n) = refused n
+
+abbrev pub scanned : Scanned → Reply ScanResult
+scanned (Scanned.Done r) = result r
+scanned (Scanned.Refused n) = refused n
+
+abbrev pub converged : Converged → Reply ConvergeResult
+converged (Converged.Done r) = result r
+converged (Converged.Refused n) = refused n
 
 -- the ledger in use after an attempt: the one answered, and where it was declined or refused the one handed to it
 abbrev pub statsAfter : Stats → Reply Tried → Stats
@@ -92,32 +108,66 @@ startCall m psf gray dots table =
     unless (startRefusal m psf gray dots (length table)) (record { dots = dots; table = table })
     (record { reply = result (freshStats t begun); buffer = withTable t begun })
 
--- ---- attempts
+-- ---- the later calls
 -- what the reference, with these dots and the figures of this ledger, does
 module _ (m : Measures) (psf gray dots : List ℕ) (s : Stats) where
   -- a toggle of the cell at (row, col)
-  abbrev pub toggled : (row col : ℕ) → Attempted
+  abbrev pub toggled : (row col : ℕ) → Performed Tried
   toggled row col = attempt (targetFor m psf gray) (reference dots s) (toggle dots (cellAt (m .width) row col))
 
   -- a swap of the cells at (row, col) and (row′, col′)
-  abbrev pub swapped : (row col row′ col′ : ℕ) → Attempted
+  abbrev pub swapped : (row col row′ col′ : ℕ) → Performed Tried
   swapped row col row′ col′ =
       attempt (targetFor m psf gray) (reference dots s)
       (swap dots (cellAt (m .width) row col) (cellAt (m .width) row′ col′))
 
+  -- and what it holds once they are accepted
+  abbrev pub afterToggle : (row col : ℕ) → Reference
+  afterToggle row col = accept (reference dots s) (toggle dots (cellAt (m .width) row col))
+
+  abbrev pub afterSwap : (row col row′ col′ : ℕ) → Reference
+  afterSwap row col row′ col′ =
+      accept (reference dots s) (swap dots (cellAt (m .width) row col) (cellAt (m .width) row′ col′))
+
+  -- a toggle scan
+  abbrev pub toggleScanned : Performed ScanResult
+  toggleScanned = scan (targetFor m psf gray) toggles (reference dots s)
+
+  -- a swap scan
+  abbrev pub swapScanned : Performed ScanResult
+  swapScanned = scan (targetFor m psf gray) (swaps (m .width) (m .height) (m .reach)) (reference dots s)
+
+  -- a settling
+  abbrev pub atRest : Performed ConvergeResult
+  atRest = converge (targetFor m psf gray) (m .reach) (reference dots s)
+
 -- unless refused with that number, the reference's answer, and its dots with their table
-unfoldable pub attemptCall : ℕ → Target → (dots : List ℕ) (table : List ℤ) → Attempted → Outcome Tried Buffers
-attemptCall number t dots table done =
+unfoldable pub laterCall : {A : Type 0} → ℕ → Target → (dots : List ℕ) (table : List ℤ) → Performed A
+    → Outcome A Buffers
+laterCall number t dots table done =
     unless number (record { dots = dots; table = table })
     (record { reply = result (done .answer); buffer = withTable t (done .after .dots) })
 
 module _ (m : Measures) (psf gray dots : List ℕ) (table : List ℤ) (s : Stats) where
   unfoldable pub toggleCall : (row col : ℕ) → Outcome Tried Buffers
   toggleCall row col =
-      attemptCall (toggleRefusal m psf gray dots table s row col) (targetFor m psf gray) dots table
+      laterCall (toggleRefusal m psf gray dots table s row col) (targetFor m psf gray) dots table
       (toggled m psf gray dots s row col)
 
   unfoldable pub swapCall : (row col row′ col′ : ℕ) → Outcome Tried Buffers
   swapCall row col row′ col′ =
-      attemptCall (swapRefusal m psf gray dots table s row col row′ col′) (targetFor m psf gray) dots table
+      laterCall (swapRefusal m psf gray dots table s row col row′ col′) (targetFor m psf gray) dots table
       (swapped m psf gray dots s row col row′ col′)
+
+  unfoldable pub toggleScanCall : Outcome ScanResult Buffers
+  toggleScanCall =
+      laterCall (laterRefusal m psf gray dots table s) (targetFor m psf gray) dots table
+      (toggleScanned m psf gray dots s)
+
+  unfoldable pub swapScanCall : Outcome ScanResult Buffers
+  swapScanCall =
+      laterCall (laterRefusal m psf gray dots table s) (targetFor m psf gray) dots table (swapScanned m psf gray dots s)
+
+  unfoldable pub convergeCall : Outcome ConvergeResult Buffers
+  convergeCall =
+      laterCall (laterRefusal m psf gray dots table s) (targetFor m psf gray) dots table (atRest m psf gray dots s)

@@ -10,7 +10,7 @@ use Rattle.model.specs.Psf.{autocorrelation}
 use Rattle.model.specs.Error.{Target, targetOf, filteredErrors, squaredError}
 use Rattle.model.specs.Screen.{thresholdAt, startDots}
 use Rattle.model.specs.Reference.{Tried, accepted, declined}
-use Rattle.model.specs.Calls.{result, Outcome, Buffers, toggleCall, swapCall}
+use Rattle.model.specs.Calls.{result, Outcome, Buffers, startCall, toggleCall, swapCall, convergeCall}
 
 -- 1 by 1, r 0, p 1
 abbrev pub single : ℕ → Target
@@ -44,8 +44,8 @@ abbrev pub stats : (before now : ℤ) (dots on off swaps : ℕ) → Stats
 stats before now dots on off swaps =
     record { «start_error» = before; error = now; «start_dots» = dots; on = on; off = off; swaps = swaps }
 
--- what an attempt answers, with the dots and the table that it leaves
-abbrev pub outcome : Tried → List ℕ → List ℤ → Outcome Tried Buffers
+-- what a call answers, with the dots and the table that it leaves
+abbrev pub outcome : {A : Type 0} → A → List ℕ → List ℤ → Outcome A Buffers
 outcome answer dots table = record { reply = result answer; buffer = record { dots = dots; table = table } }
 
 -- a toggle of the one cell, blank and fresh
@@ -89,6 +89,11 @@ pub record Examples : Type 0 where
       (stats (pos 84350) (pos 84350) 1 0 0 0) 0 0 0 1
       ≡ outcome (accepted (stats (pos 84350) (pos 53750) 1 0 0 1) (negsuc 30599))
       (0 ∷ 1 ∷ []) (negsuc 99 ∷ pos 350 ∷ [])
+  -- settling it takes 4 scans
+  pub pair-converges : convergeCall pairMeasures even (100 ∷ 130 ∷ []) (1 ∷ 0 ∷ []) (pos 410 ∷ negsuc 159 ∷ [])
+      (stats (pos 84350) (pos 84350) 1 0 0 0)
+      ≡ outcome (record { stats = stats (pos 84350) (pos 53750) 1 0 0 1; scans = 4 })
+      (0 ∷ 1 ∷ []) (negsuc 99 ∷ pos 350 ∷ [])
   -- p rows `0 0 0`, `0 1 2`, `0 0 0`: c 5, and 2 at one step either way
   pub lopsided-at-0 : autocorrelation 1 lopsided (pos 0) (pos 0) ≡ pos 5
   pub lopsided-right : autocorrelation 1 lopsided (pos 0) (pos 1) ≡ pos 2
@@ -101,3 +106,10 @@ pub record Examples : Type 0 where
   -- kind 1, 2 by 1: gray 127 127 gives 1 0; 128 128 gives 1 1
   pub ordered-127 : startDots orderedPair (127 ∷ 127 ∷ []) (0 ∷ 0 ∷ []) ≡ 1 ∷ 0 ∷ []
   pub ordered-128 : startDots orderedPair (128 ∷ 128 ∷ []) (0 ∷ 0 ∷ []) ≡ 1 ∷ 1 ∷ []
+  -- the worked sheet, gray 100 100 from a start of kind 0: dots 1 0; 200000 80150 1 0 0 3
+  pub worked-start : startCall pairMeasures even (100 ∷ 100 ∷ []) (0 ∷ 0 ∷ []) (pos 0 ∷ pos 0 ∷ [])
+      ≡ outcome (stats (pos 200000) (pos 200000) 0 0 0 0) (0 ∷ 0 ∷ []) (negsuc 999 ∷ negsuc 999 ∷ [])
+  pub worked-converges : convergeCall pairMeasures even (100 ∷ 100 ∷ []) (0 ∷ 0 ∷ []) (negsuc 999 ∷ negsuc 999 ∷ [])
+      (stats (pos 200000) (pos 200000) 0 0 0 0)
+      ≡ outcome (record { stats = stats (pos 200000) (pos 80150) 0 1 0 0; scans = 3 })
+      (1 ∷ 0 ∷ []) (pos 530 ∷ pos 20 ∷ [])

@@ -8,5 +8,8 @@ pub mod Refusal
 pub mod State
 pub mod Reference
 pub mod Change
+pub mod Partners
+pub mod Scan
 pub mod Calls
+pub mod Lists
 pub mod Examples

@@ -94,16 +94,16 @@ accept p v =
       swaps = p .swaps + ofSwaps (v .raises);
     }
 
+-- what a call that is not refused answers, and the reference after it
+pub record Performed (A : Type 0) : Type 0 where
+  pub answer : A
+  pub after : Reference
+
 -- ---- an attempt
 -- its answer, where it is not refused: accepted with the new ledger and the change, or declined with the change
 pub data Tried : Type 0 where
   accepted : Stats → ℤ → Tried
   declined : ℤ → Tried
-
--- and the reference after it
-pub record Attempted : Type 0 where
-  pub answer : Tried
-  pub after : Reference
 
 module _ (t : Target) where
   -- a ledger holds the figures, E now being the sum
@@ -126,7 +126,7 @@ module _ (t : Target) where
   abbrev pub lowers : List ℕ → Move → Bool
   lowers dots v = ltZ (change dots v) (pos 0)
 
-  unfoldable pub attempt : Reference → Move → Attempted
+  unfoldable pub attempt : Reference → Move → Performed Tried
   attempt p v =
       pick (lowers (p .dots) v)
       (record { answer = accepted (statsOf (accept p v)) (change (p .dots) v); after = accept p v })

@@ -97,6 +97,21 @@ module _ (t : Target) (dots : List ℕ) where
 abbrev pub badLike : List ℕ → ℕ → ℕ → Refusal
 badLike dots m n = 22 when eqb (getD dots m 0) (getD dots n 0)
 
+-- ---- what the cells that a call names draw
+module _ (m : Measures) where
+  -- 8 of a toggle
+  abbrev pub toggleNamed : (row col : ℕ) → List Refusal
+  toggleNamed row col = badCell (m .width) (m .height) row col ∷ []
+
+  -- 8 and 9 of a swap
+  abbrev pub swapNamed : (row col row′ col′ : ℕ) → List Refusal
+  swapNamed row col row′ col′ =
+      badCells (m .width) (m .height) row col row′ col′ ∷ badPair (m .reach) row col row′ col′ ∷ []
+
+  -- 22 of a swap
+  abbrev pub swapAlike : (dots : List ℕ) (row col row′ col′ : ℕ) → List Refusal
+  swapAlike dots row col row′ col′ = badLike dots (cellAt (m .width) row col) (cellAt (m .width) row′ col′) ∷ []
+
 -- ---- the later calls
 module _ (m : Measures) (psf gray dots : List ℕ) (table : List ℤ) (s : Stats) where
   -- 1 to 7
@@ -116,14 +131,10 @@ module _ (m : Measures) (psf gray dots : List ℕ) (table : List ℤ) (s : Stats
   laterRefusal = firstOf (later [] [])
 
   unfoldable pub toggleRefusal : (row col : ℕ) → ℕ
-  toggleRefusal row col = firstOf (later (badCell (m .width) (m .height) row col ∷ []) [])
+  toggleRefusal row col = firstOf (later (toggleNamed m row col) [])
 
   unfoldable pub swapRefusal : (row col row′ col′ : ℕ) → ℕ
-  swapRefusal row col row′ col′ =
-      firstOf
-      (later
-      (badCells (m .width) (m .height) row col row′ col′ ∷ badPair (m .reach) row col row′ col′ ∷ [])
-      (badLike dots (cellAt (m .width) row col) (cellAt (m .width) row′ col′) ∷ []))
+  swapRefusal row col row′ col′ = firstOf (later (swapNamed m row col row′ col′) (swapAlike m dots row col row′ col′))
 
 -- the state that neither 20 nor 21 refuses
 pub record StateFits (t : Target) (dots : List ℕ) (table : List ℤ) (s : Stats) : Type 0 where

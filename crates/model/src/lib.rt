@@ -45,3 +45,27 @@ pub enum Attempt {
     Declined(i64),
     Refused(u32),
 }
+
+// What a scan answers: the new ledger and the changes that it accepted.
+pub struct ScanResult {
+    pub stats: Stats,
+    pub changes: u64,
+}
+
+// The answer of a scan: its result, or refused with the number of document 01.
+pub enum Scanned {
+    Done(ScanResult),
+    Refused(u32),
+}
+
+// What a convergence (01: a settling) answers: the new ledger and the number of scans, toggle and swap scans together.
+pub struct ConvergeResult {
+    pub stats: Stats,
+    pub scans: u64,
+}
+
+// The answer of a convergence: its result, or refused with the number of document 01.
+pub enum Converged {
+    Done(ConvergeResult),
+    Refused(u32),
+}

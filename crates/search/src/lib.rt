@@ -1,24 +1,12 @@
 // The public calls that change a plate. Each judges all that it is handed; then the table decides, and a change is made
 // only where it lowers the squared error. A refusal changes nothing.
 ghost use mathlib.Core.Path.{_≡_};
-ghost use Prim.Native.Nat.{_<_};
-ghost use lib.ListN.{getD};
-ghost use Rattle.model.specs.Window.{HoldsKernel};
-ghost use Rattle.model.specs.Error.{targetFor, cellAt, filteredErrors};
-ghost use Rattle.model.specs.State.{LaterFits, toggleRefusal, swapRefusal};
-ghost use Rattle.model.specs.Calls.{result, attempted, toggled, swapped, toggleCall, swapCall};
+ghost use Rattle.model.specs.State.{toggleRefusal, swapRefusal};
+ghost use Rattle.model.specs.Calls.{attempted, toggleCall, swapCall};
 use cells::judge_cell;
 use cells::judge_cells;
 use cells::judge_like;
 use cells::judge_pair;
-use change::between;
-use change::count_swap;
-use change::count_toggle;
-use change::flip;
-use change::lowers;
-use change::peak;
-use change::swap_change;
-use change::toggle_change;
 use judge::first;
 use judge::judge_later;
 use model::Attempt;
@@ -26,6 +14,8 @@ use model::Measures;
 use model::Stats;
 use state::judge_state;
 use sums::kernel;
+use trial::swap;
+use trial::toggle;
 
 // the whole list of a toggle
 fn judge_toggle(
@@ -101,107 +91,6 @@ fn judge_swap(
     let n = row2 * measures.width + col2;
     let like = judge_like(dots, m, n);
     first(state, like)
-}
-
-// A toggle of a cell on a judged plate whose kernel is c; psf and gray are there for the contract.
-fn toggle(
-    measures: Measures,
-    psf: &[u8],
-    gray: &[u8],
-    c: &[i32],
-    dots: &mut [u8],
-    table: &mut [i32],
-    stats: Stats,
-    row: usize,
-    col: usize,
-) -> Attempt
-    requires { ⌜ LaterFits measures (now psf) (now gray) (now dots) (now table) stats ⌝ }
-    requires { ⌜ HoldsKernel (measures .radius) (now psf) (now c) ⌝ }
-    requires { ⌜ (row < measures .height) × (col < measures .width) ⌝ }
-    ensures { λ r. ⌜ attempted r ≡ result (toggled measures (now (psf .entry)) (now (gray .entry))
-        (now (dots .entry)) stats row col .answer) ⌝ }
-    ensures { λ _. ⌜ now (dots .exit) ≡ toggled measures (now (psf .entry)) (now (gray .entry))
-        (now (dots .entry)) stats row col .after .dots ⌝ }
-    ensures { λ _. ⌜ now (table .exit) ≡ filteredErrors (targetFor measures (now (psf .entry)) (now (gray .entry)))
-        (toggled measures (now (psf .entry)) (now (gray .entry))
-        (now (dots .entry)) stats row col .after .dots) ⌝ }
-{
-    let m = row * measures.width + col;
-    let change = toggle_change(peak(measures.radius, c), dots, table, m);
-    if lowers(change) {
-        let toggled = count_toggle(stats, change, dots[m]);
-        flip(
-            measures.width,
-            measures.height,
-            measures.radius,
-            c,
-            dots,
-            table,
-            row,
-            col,
-        );
-        return Attempt::Accepted(toggled, change);
-    }
-    Attempt::Declined(change)
-}
-
-// A swap of two cells on a judged plate, their dots unlike; psf and gray are there for the contract.
-fn swap(
-    measures: Measures,
-    psf: &[u8],
-    gray: &[u8],
-    c: &[i32],
-    dots: &mut [u8],
-    table: &mut [i32],
-    stats: Stats,
-    row: usize,
-    col: usize,
-    row2: usize,
-    col2: usize,
-) -> Attempt
-    requires { ⌜ LaterFits measures (now psf) (now gray) (now dots) (now table) stats ⌝ }
-    requires { ⌜ HoldsKernel (measures .radius) (now psf) (now c) ⌝ }
-    requires { ⌜ (row < measures .height) × (col < measures .width) ⌝ }
-    requires { ⌜ (row2 < measures .height) × (col2 < measures .width) ⌝ }
-    requires { ⌜ (getD (now dots) (cellAt (measures .width) row col) 0
-        ≡ getD (now dots) (cellAt (measures .width) row2 col2) 0 → ⊥) ⌝ }
-    ensures { λ r. ⌜ attempted r ≡ result (swapped measures (now (psf .entry)) (now (gray .entry))
-        (now (dots .entry)) stats row col row2 col2 .answer) ⌝ }
-    ensures { λ _. ⌜ now (dots .exit) ≡ swapped measures (now (psf .entry)) (now (gray .entry))
-        (now (dots .entry)) stats row col row2 col2 .after .dots ⌝ }
-    ensures { λ _. ⌜ now (table .exit) ≡ filteredErrors (targetFor measures (now (psf .entry)) (now (gray .entry)))
-        (swapped measures (now (psf .entry)) (now (gray .entry))
-        (now (dots .entry)) stats row col row2 col2 .after .dots) ⌝ }
-{
-    let m = row * measures.width + col;
-    let n = row2 * measures.width + col2;
-    let apart = between(measures.radius, c, row, col, row2, col2);
-    let change = swap_change(peak(measures.radius, c), apart, dots, table, m, n);
-    if lowers(change) {
-        let swapped = count_swap(stats, change);
-        flip(
-            measures.width,
-            measures.height,
-            measures.radius,
-            c,
-            dots,
-            table,
-            row,
-            col,
-        );
-        flip(
-            measures.width,
-            measures.height,
-            measures.radius,
-            c,
-            dots,
-            table,
-            row2,
-            col2,
-        );
-        return Attempt::Accepted(swapped, change);
-    }
-    Attempt::Declined(change)
 }
 
 // An attempt to toggle the dot of the cell at (row, col).

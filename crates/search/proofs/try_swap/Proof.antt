@@ -5,7 +5,7 @@ use borrow.Author.Needs.{needs}
 use lib.ListN.{getD}
 use Rattle.model.specs.Error.{cellAt}
 use Rattle.model.specs.State.{LaterFits, swapRefusal}
-use Rattle.model.specs.Calls.{attemptCall, swapCall}
+use Rattle.model.specs.Calls.{laterCall, swapCall}
 use Rattle.model.proofs.Calls.{both-refused, both-done}
 use Rattle.model.proofs.Later.{swap-enters}
 use Rattle.search.proofs.try_swap.Statement.{statement}
@@ -21,7 +21,7 @@ same-length-2 : tie.Need-same-length-2
 same-length-2 c = search needs
 
 returns : tie.Need-returns
-unfolding swapCall attemptCall
+unfolding swapCall laterCall
 returns c = both-refused _ _ _ _ (c .before .judge-swap .ensures) (c .if1 .taken)
 
 -- what is known once nothing is refused
@@ -60,7 +60,7 @@ same-length-4 : tie.Need-same-length-4
 same-length-4 c = search needs
 
 returns-2 : tie.Need-returns-2
-unfolding swapCall attemptCall
+unfolding swapCall laterCall
 returns-2 c =
     let k = c .before .before .before in
     let e = k .before .before .before .before .before in

@@ -3,7 +3,7 @@ use mathlib.Core.Path.{_≡_, sym, _∙_}
 use Prim.Native.Nat.{_<_}
 use borrow.Author.Needs.{needs}
 use Rattle.model.specs.State.{LaterFits, toggleRefusal}
-use Rattle.model.specs.Calls.{attemptCall, toggleCall}
+use Rattle.model.specs.Calls.{laterCall, toggleCall}
 use Rattle.model.proofs.Calls.{both-refused, both-done}
 use Rattle.model.proofs.Later.{toggle-enters}
 use Rattle.search.proofs.try_toggle.Statement.{statement}
@@ -19,7 +19,7 @@ same-length-2 : tie.Need-same-length-2
 same-length-2 c = search needs
 
 returns : tie.Need-returns
-unfolding toggleCall attemptCall
+unfolding toggleCall laterCall
 returns c = both-refused _ _ _ _ (c .before .judge-toggle .ensures) (c .if1 .taken)
 
 -- what is known once nothing is refused
@@ -55,7 +55,7 @@ same-length-4 : tie.Need-same-length-4
 same-length-4 c = search needs
 
 returns-2 : tie.Need-returns-2
-unfolding toggleCall attemptCall
+unfolding toggleCall laterCall
 returns-2 c =
     let k = c .before .before .before in
     let e = k .before .before .before .before .before in

@@ -2,7 +2,7 @@
 -- the reference, and turning a dot leaves the table of the dots turned.
 use mathlib.Core.Path.{_≡_, refl, sym, _∙_, ap, ap₂, subst}
 use mathlib.Core.List.{List, [], _∷_}
-use Prim.Native.Nat.{ℕ, _+_, _*_, _-_, _≤_, _<_}
+use Prim.Native.Nat.{ℕ, _+_, _*_, _≤_, _<_}
 use native.Mathlib.Omega.{arith}
 use lib.IntN.{ℤ, pos, natAbs, _-ℤ_, _*ℤ_}
 use lib.ListN.{length, getD}
@@ -39,10 +39,22 @@ module _ (w h r : ℕ) (psf gray dots : List ℕ) (n : ℕ) (f : HalftoneFits w 
   unfolding made
   flipped-fits q l = halftone-made dots (turns dots q ∷ []) f (rw (f .dots-length) l, tt) (omega arith, tt)
 
+  -- the numbers of the table are small
+  pub table-small : {table : List ℤ} → table ≡ filteredErrors t dots → AtMost 255 gray → Small mostFiltered table
+  table-small e bytes = subst (Small mostFiltered) (sym e) (filtered-small w h r psf gray dots f bytes)
+
   -- with the kernel
   module _ (c : List ℤ) (k : HoldsKernel r psf c) where
     pub at-small : (dy dx : ℤ) → natAbs (squareAt (pos 0) (2 * r) c dy dx) ≤ 1048576
     at-small dy dx = square-small (2 * r) c dy dx (k .small)
+
+    -- a toggle
+    pub toggle-is : {table : List ℤ} (q : ℕ) → q < cells t → table ≡ filteredErrors t dots
+        → toggleSum 255 (squareAt (pos 0) (2 * r) c (pos 0) (pos 0)) (sign dots q) (getD table q (pos 0))
+        ≡ change t dots (toggle dots q)
+    toggle-is q l e =
+        ap₂ (λ P T. toggleSum 255 P (sign dots q) T) (k .at (pos 0) (pos 0)) (ap (λ d. getD d q (pos 0)) e ∙ entry q l)
+        ∙ sym (toggle-change t dots (f .bits) (f .dots-length) q l)
 
     module _ (row col : ℕ) (down : row < h) (across : col < w) where
       abbrev q : ℕ
@@ -60,7 +72,7 @@ module _ (w h r : ℕ) (psf gray dots : List ℕ) (n : ℕ) (f : HalftoneFits w 
           (k .long, k .small),
           (
             (f .dots-length, ap length e ∙ filtered-long t dots),
-            (f .bits, subst (Small mostFiltered) (sym e) (filtered-small w h r psf gray dots f bytes)),
+            (f .bits, table-small e bytes),
           ),
         ),
       )
@@ -74,15 +86,6 @@ module _ (w h r : ℕ) (psf gray dots : List ℕ) (n : ℕ) (f : HalftoneFits w 
           ∙ ap₂ (λ y x. addWindow w (2 * r) c (pos 255 *ℤ sign dots q) y x (filteredErrors t dots))
           (sym (cell-row across)) (sym (cell-column row across))
           ∙ sym (flip-table t dots (f .bits) (f .dots-length) c k q (cell< down across))
-
-      -- a toggle
-      pub toggle-is : {table : List ℤ} → table ≡ filteredErrors t dots
-          → toggleSum 255 (squareAt (pos 0) (2 * r) c (pos 0) (pos 0)) (sign dots q) (getD table q (pos 0))
-          ≡ change t dots (toggle dots q)
-      toggle-is e =
-          ap₂ (λ P T. toggleSum 255 P (sign dots q) T) (k .at (pos 0) (pos 0))
-          (ap (λ l. getD l q (pos 0)) e ∙ entry q (cell< down across))
-          ∙ sym (toggle-change t dots (f .bits) (f .dots-length) q (cell< down across))
 
       -- another cell
       module _ (row2 col2 : ℕ) (down2 : row2 < h) (across2 : col2 < w) where

@@ -1,0 +1,210 @@
+-- Lists of calls: each call, handed what the last one left, answers as the reference does and leaves the reference's
+-- dots with their table and its ledger.
+use mathlib.Core.Bool.{true, false}
+use mathlib.Core.List.{List, [], _∷_, _++_}
+use mathlib.Core.Logic.{_⊎_, inl, inr}
+use mathlib.Core.Path.{_≡_, refl, sym, _∙_, ap, ap₂, subst}
+use Prim.Native.Nat.{ℕ, zero, suc}
+use native.Mathlib.Nat.{le-refl}
+use lib.ListN.{length}
+use Rattle.model.specs.declared.Measures.{Measures}
+use Rattle.model.specs.Error.{Target, targetFor, cellAt, cells, filteredErrors}
+use Rattle.model.specs.Refusal.{Refusal, _when_, firstOf}
+use Rattle.model.specs.State.{toggleNamed, swapNamed, swapAlike, later, LaterFits}
+use Rattle.model.specs.State.{laterRefusal, toggleRefusal, swapRefusal}
+use Rattle.model.specs.Reference.{Move, toggle, swap, Reference, reference, Performed, statsOf, attempt}
+use Rattle.model.specs.Scan.{Rule, toggles, swaps, scan, resultOf, converge}
+use Rattle.model.specs.Calls.{Reply, result, Outcome, Buffers, laterCall}
+use Rattle.model.specs.Calls.{toggleCall, swapCall, toggleScanCall, swapScanCall, convergeCall}
+use Rattle.model.specs.Lists.{Call, toggleAt, swapAt, toggleScan, swapScan, convergence}
+use Rattle.model.specs.Lists.{Result, tried, swept, rested}
+use Rattle.model.specs.Lists.{Held, latest, outcome, handOn, call, run}
+use Rattle.model.specs.Lists.{Replied, replied, referenceRefusals, does, unlessRefused, referenceCall}
+use Rattle.model.specs.Lists.{referenceRun, Expected}
+use Rattle.model.proofs.Basic.{All}
+use Rattle.model.proofs.Later.{later-draws}
+use Rattle.model.proofs.Reference.{Legal}
+use Rattle.model.proofs.Attempts.{toggle-ready, swap-ready, attempt-cases, Sound, entry-stats, entry-sound}
+use Rattle.model.proofs.Scan.{Halftone, Lawful, toggles-lawful, swaps-lawful, Keeps, sweep-keeps}
+use Rattle.model.proofs.Scan.{sound-halftone, sound-kept}
+use Rattle.model.proofs.Converge.{converge-keeps}
+
+-- what is handed on beside the reference
+abbrev pub heldOf : Target → Reference → Held
+heldOf t p = record { dots = p .dots; table = filteredErrors t (p .dots); stats = statsOf t p }
+
+-- ---- the ledger in use after a call is the reference's
+module _ (t : Target) (p : Reference) where
+  abbrev Counted : {A : Type 0} → (A → Result) → Performed A → Type 0
+  Counted f done = latest (statsOf t p) (result (f (done .answer))) ≡ statsOf t (done .after)
+
+  attempt-counted : (v : Move) → Counted tried (attempt t p v)
+  attempt-counted v = attempt-cases t p v (Counted tried) (λ l. refl) (λ l. refl)
+
+  scan-counted : (rule : Rule) → Counted swept (scan t rule p)
+  unfolding scan resultOf
+  scan-counted rule = refl
+
+  converge-counted : (reach : ℕ) → Counted rested (converge t reach p)
+  unfolding converge
+  converge-counted reach = refl
+
+  -- ---- a call and the reference, side by side
+  abbrev Same : Outcome Result Buffers → Replied → Type 0
+  Same o r = (o .reply ≡ r .reply) × (handOn (heldOf t p) o ≡ heldOf t (r .after))
+
+  -- refused alike, or both done
+  same-by : {A : Type 0} (f : A → Result) (done : Performed A) {n k : ℕ} → n ≡ k → Counted f done
+      → Same (outcome f (laterCall n t (p .dots) (filteredErrors t (p .dots)) done))
+      (unlessRefused k p (replied f done))
+  unfolding laterCall
+  same-by f done {n} {k} e c =
+      subst (λ j.
+      Same (outcome f (laterCall n t (p .dots) (filteredErrors t (p .dots)) done)) (unlessRefused j p (replied f done)))
+      e (go n)
+    where
+      go : (n : ℕ) → Same (outcome f (laterCall n t (p .dots) (filteredErrors t (p .dots)) done))
+          (unlessRefused n p (replied f done))
+      go zero = (
+        refl,
+        ap (λ s. record { dots = done .after .dots; table = filteredErrors t (done .after .dots); stats = s }) c,
+      )
+      go (suc n) = (refl, refl)
+
+module _ (m : Measures) (psf gray : List ℕ) where
+  abbrev t : Target
+  t = targetFor m psf gray
+
+  module _ (p : Reference) (f : Sound m psf gray p) where
+    -- the same number is drawn
+    draws : (named alike : List Refusal) → firstOf (later m psf gray (p .dots) (filteredErrors t (p .dots))
+        (statsOf t p) named alike) ≡ firstOf (named ++ alike)
+    draws = later-draws m psf gray (p .dots) (filteredErrors t (p .dots)) (statsOf t p) f
+
+    pub call-same : (c : Call) → Same t p (call m psf gray (heldOf t p) c) (referenceCall m psf gray p c)
+    unfolding toggleCall swapCall toggleScanCall swapScanCall convergeCall toggleRefusal swapRefusal laterRefusal
+        statsOf
+    call-same (toggleAt row col) =
+        let v : Move = toggle (p .dots) (cellAt (m .width) row col) in
+        same-by t p tried (attempt t p v) (draws (toggleNamed m row col) []) (attempt-counted t p v)
+    call-same (swapAt row col row′ col′) =
+        let v : Move = swap (p .dots) (cellAt (m .width) row col) (cellAt (m .width) row′ col′) in
+        same-by t p tried (attempt t p v)
+        (draws (swapNamed m row col row′ col′) (swapAlike m (p .dots) row col row′ col′)) (attempt-counted t p v)
+    call-same toggleScan = same-by t p swept (scan t toggles p) (draws [] []) (scan-counted t p toggles)
+    call-same swapScan =
+        let rule : Rule = swaps (m .width) (m .height) (m .reach) in
+        same-by t p swept (scan t rule p) (draws [] []) (scan-counted t p rule)
+    call-same convergence =
+        same-by t p rested (converge t (m .reach) p) (draws [] []) (converge-counted t p (m .reach))
+
+    -- ---- what every accepted change keeps, every call keeps
+    module _ (P : Reference → Type 0) (keep : Keeps t P) (h : P p) where
+      halftone : Halftone t (p .dots)
+      halftone = sound-halftone m psf gray p f
+
+      attempt-keeps : (v : Move) → Legal (length (p .dots)) (p .dots) v → P (attempt t p v .after)
+      attempt-keeps v legal =
+          attempt-cases t p v (λ done. P (done .after))
+          (λ l. keep p v halftone (subst (λ n. Legal n (p .dots) v) (halftone .long) legal) l h) (λ l. h)
+
+      scan-keeps : (rule : Rule) → Lawful t rule → P (scan t rule p .after)
+      unfolding scan
+      scan-keeps rule lawful = sweep-keeps t rule lawful p halftone P keep h (cells t) (le-refl (cells t))
+
+      -- a call that is not refused
+      does-keeps : (c : Call) → firstOf (referenceRefusals m psf gray (p .dots) c) ≡ 0 → P (does m psf gray p c .after)
+      unfolding converge toggleRefusal swapRefusal
+      does-keeps (toggleAt row col) e =
+          attempt-keeps _
+          (toggle-ready m psf gray (p .dots) (filteredErrors t (p .dots)) (statsOf t p) row col
+          (draws (toggleNamed m row col) [] ∙ e) .1)
+      does-keeps (swapAt row col row′ col′) e =
+          attempt-keeps _
+          (swap-ready m psf gray (p .dots) (filteredErrors t (p .dots)) (statsOf t p) row col row′ col′
+          (draws (swapNamed m row col row′ col′) (swapAlike m (p .dots) row col row′ col′) ∙ e) .1)
+      does-keeps toggleScan e = scan-keeps toggles (toggles-lawful t)
+      does-keeps swapScan e = scan-keeps (swaps (m .width) (m .height) (m .reach)) (swaps-lawful t (m .reach))
+      does-keeps convergence e = converge-keeps t (m .reach) (f .halftone .wide .0) P keep p 0 halftone h
+
+      call-keeps : (c : Call) → P (referenceCall m psf gray p c .after)
+      call-keeps c = go (firstOf (referenceRefusals m psf gray (p .dots) c)) refl
+        where
+          go : (n : ℕ) → firstOf (referenceRefusals m psf gray (p .dots) c) ≡ n
+              → P (unlessRefused n p (does m psf gray p c) .after)
+          go zero e = does-keeps c e
+          go (suc n) e = h
+
+  -- so later calls accept what it leaves
+  pub call-later : (h : Held) (c : Call) → LaterFits m psf gray (h .dots) (h .table) (h .stats)
+      → (let h′ = handOn h (call m psf gray h c) in LaterFits m psf gray (h′ .dots) (h′ .table) (h′ .stats))
+  call-later h c f =
+      let p : Reference = reference (h .dots) (h .stats) in
+      let sound : Sound m psf gray p = entry-sound m psf gray (h .dots) (h .table) (h .stats) f in
+      let handed : heldOf t p ≡ h
+      = ap₂ (λ T s. record { dots = h .dots; table = T; stats = s }) (sym (f .state .table-is))
+      (sym (entry-stats m psf gray (h .dots) (h .table) (h .stats) f)) in
+      subst (λ x. Left (handOn x (call m psf gray x c))) handed
+      (subst Left (sym (call-same p sound c .1))
+      (call-keeps p sound (Sound m psf gray) (sound-kept m psf gray) sound c))
+    where
+      Left : Held → Type 0
+      Left h = LaterFits m psf gray (h .dots) (h .table) (h .stats)
+
+  -- ---- a list of them
+  module _ (P : Reference → Type 0) (keep : Keeps t P) where
+    pub record Alike (h : List (Reply Result) × Held) (r : List (Reply Result) × Reference) : Type 0 where
+      pub answers : h .0 ≡ r .0
+      pub held : h .1 ≡ heldOf t (r .1)
+      pub sound : Sound m psf gray (r .1)
+      pub kept : P (r .1)
+
+    pub run-same : (p : Reference) (l : List Call) → Sound m psf gray p → P p
+        → Alike (run m psf gray (heldOf t p) l) (referenceRun m psf gray p l)
+    unfolding run referenceRun
+    run-same p [] f h = record { answers = refl; held = refl; sound = f; kept = h }
+    run-same p (c ∷ l) f h =
+        let (reply, next) = call-same p f c in
+        let ih
+        = run-same (referenceCall m psf gray p c .after) l
+        (call-keeps p f (Sound m psf gray) (sound-kept m psf gray) f c) (call-keeps p f P keep h c) in
+        record {
+          answers = ap₂ (λ a r. a ∷ r) reply (ap (λ x. run m psf gray x l .0) next ∙ ih .answers);
+          held = ap (λ x. run m psf gray x l .1) next ∙ ih .held;
+          sound = ih .sound;
+          kept = ih .kept;
+        }
+
+  -- ---- the only refusals in a list
+  abbrev One : ℕ → Type 0
+  One n = (n ≡ 8) ⊎ ((n ≡ 9) ⊎ (n ≡ 22))
+
+  abbrev Among : List Refusal → Type 0
+  Among [] = Unit {0}
+  Among (n when b ∷ l) = One n × Among l
+
+  module _ (p : Reference) (r : Replied) (h : Expected (r .reply)) where
+    one-drawn : (n : ℕ) → One n → Expected (unlessRefused n p r .reply)
+    one-drawn zero d = h
+    one-drawn (suc n) d = d
+
+    drawn-expected : (l : List Refusal) → Among l → Expected (unlessRefused (firstOf l) p r .reply)
+    drawn-expected [] a = h
+    drawn-expected (n when true ∷ l) a = one-drawn n (a .0)
+    drawn-expected (n when false ∷ l) a = drawn-expected l (a .1)
+
+  call-expected : (p : Reference) (c : Call) → Expected (referenceCall m psf gray p c .reply)
+  call-expected p (toggleAt row col) =
+      drawn-expected p (does m psf gray p (toggleAt row col)) tt (toggleNamed m row col) (inl refl, tt)
+  call-expected p (swapAt row col row′ col′) =
+      drawn-expected p (does m psf gray p (swapAt row col row′ col′)) tt
+      (swapNamed m row col row′ col′ ++ swapAlike m (p .dots) row col row′ col′)
+      (inl refl, (inr (inl refl), (inr (inr refl), tt)))
+  call-expected p toggleScan = tt
+  call-expected p swapScan = tt
+  call-expected p convergence = tt
+
+  pub run-expected : (p : Reference) (l : List Call) → All Expected (referenceRun m psf gray p l .0)
+  unfolding referenceRun
+  run-expected p [] = tt
+  run-expected p (c ∷ l) = (call-expected p c, run-expected (referenceCall m psf gray p c .after) l)

@@ -1,0 +1,60 @@
+-- What the loop over the partners of one cell steps by: the attempts that a swap scan has left there from the j-th
+-- offset on. An offset is passed over, or its swap is declined, or its swap is accepted, which ends them.
+use mathlib.Core.Bool.{true, false}
+use mathlib.Core.List.{List, _∷_}
+use mathlib.Core.Path.{_≡_, _∙_, ap}
+use Prim.Native.Nat.{ℕ, suc, _≤_, _<_}
+use lib.ListN.{length, getD, drop, drop-of-length-le}
+use lib.Seq.{drop-cons}
+use Rattle.model.specs.Basic.{pick}
+use Rattle.model.specs.Error.{Target}
+use Rattle.model.specs.Reference.{Move, swap, lowers}
+use Rattle.model.specs.Partners.{Offset, offsets, biased, partner}
+use Rattle.model.specs.Scan.{suits, swapsBy, Sweep, tryEach}
+use Rattle.model.proofs.Scan.{more}
+
+module _ (t : Target) (reach : ℕ) (s : Sweep) (m : ℕ) where
+  abbrev dots : List ℕ
+  dots = s .after .dots
+
+  abbrev attempts : List Offset → List Move
+  attempts l = swapsBy (t .width) (t .height) l dots m
+
+  abbrev pub left : ℕ → Sweep
+  left j = tryEach t s (attempts (drop j (offsets reach)))
+
+  -- no offset is left
+  pub left-none : (j : ℕ) → length (offsets reach) ≤ j → left j ≡ s
+  unfolding swapsBy tryEach
+  left-none j h = ap (λ l. tryEach t s (attempts l)) (drop-of-length-le (offsets reach) h)
+
+  module _ (j : ℕ) (h : j < length (offsets reach)) where
+    abbrev offset : Offset
+    offset = getD (offsets reach) j (biased 6 6)
+
+    abbrev move : Move
+    move = swap dots m (partner (t .width) m offset)
+
+    abbrev others : List Move
+    others = attempts (drop (suc j) (offsets reach))
+
+    next : left j ≡ tryEach t s (pick (suits (t .width) (t .height) dots m offset) (move ∷ others) others)
+    unfolding swapsBy
+    next = ap (λ l. tryEach t s (attempts l)) (drop-cons (offsets reach) j (biased 6 6) h)
+
+    -- it is passed over
+    pub pass-unsuited : suits (t .width) (t .height) dots m offset ≡ false → left j ≡ left (suc j)
+    pass-unsuited e = next ∙ ap (λ b. tryEach t s (pick b (move ∷ others) others)) e
+
+    module _ (e : suits (t .width) (t .height) dots m offset ≡ true) where
+      tried : left j ≡ pick (lowers t dots move) (more s move) (left (suc j))
+      unfolding tryEach
+      tried = next ∙ ap (λ b. tryEach t s (pick b (move ∷ others) others)) e
+
+      -- its swap is declined
+      pub pass-declined : lowers t dots move ≡ false → left j ≡ left (suc j)
+      pass-declined f = tried ∙ ap (λ b. pick b (more s move) (left (suc j))) f
+
+      -- its swap is accepted
+      pub taken : lowers t dots move ≡ true → left j ≡ more s move
+      taken f = tried ∙ ap (λ b. pick b (more s move) (left (suc j))) f

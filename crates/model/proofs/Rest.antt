@@ -1,0 +1,99 @@
+-- Rest: where nothing that a toggle scan or a swap scan attempts lowers E, no toggle and no swap within reach does, and
+-- the table keeps to the two half-peak bounds, one side under dots and the other under blanks.
+use mathlib.Core.Bool.{true, not, _&&_}
+use mathlib.Core.List.{List, [], _∷_, List·Memᴰ as In, List·Memᴰ·head as here, List·Memᴰ·tail as there}
+use mathlib.Core.Path.{_≡_, sym, _∙_, ap, ap₂, subst}
+use Prim.Native.Nat.{ℕ, _/_, _%_, _≤_, _<_}
+use native.Mathlib.Omega.{arith}
+use borrow.Author.Tests.{ne-eqb}
+use lib.IntN.{ℤ, pos, negsuc, negℤ, _+ℤ_, _*ℤ_}
+use lib.Signed.{_≤ℤ_}
+use lib.ListN.{getD}
+use Rattle.algebra.proofs.Solver.{reify}
+use Rattle.algebra.proofs.Order.{ordℤ, read≤, show≤}
+use Rattle.model.specs.Basic.{pick}
+use Rattle.model.specs.Psf.{peak}
+use Rattle.model.specs.Error.{Target, cells, filteredError, filteredErrors}
+use Rattle.model.specs.Refusal.{gap}
+use Rattle.model.specs.Change.{signOf, sign, toggleSum}
+use Rattle.model.specs.Reference.{Move, toggle, swap}
+use Rattle.model.specs.Partners.{Offset, offsets, partner}
+use Rattle.model.specs.Scan.{toggles, suits, swapsBy, swaps}
+use Rattle.model.specs.Lists.{Rest}
+use Rattle.model.proofs.Basic.{pick-cases, All, getD-tabulate}
+use Rattle.model.proofs.Change.{toggle-change}
+use Rattle.model.proofs.Partners.{IsPartner, partners-cover}
+use Rattle.model.proofs.Scan.{Halftone, Calm}
+
+-- what is known of all swaps with the partners, of one
+module _ (width height : ℕ) (dots : List ℕ) (m : ℕ) (P : Move → Type 0) where
+  abbrev those : List Offset → List Move
+  those l = swapsBy width height l dots m
+
+  of-partner : (o : Offset) (l : List Offset) → In o l → suits width height dots m o ≡ true → All P (those l)
+      → P (swap dots m (partner width m o))
+  unfolding swapsBy
+  of-partner o (x ∷ l) (here q) e a =
+      subst (λ o. P (swap dots m (partner width m o))) (sym q)
+      (subst (λ b. All P (pick b (swap dots m (partner width m x) ∷ those l) (those l)))
+      (subst (λ o. suits width height dots m o ≡ true) q e) a .0)
+  of-partner o (x ∷ l) (there i) e a =
+      of-partner o l i e
+      (pick-cases (λ k. All P k → All P (those l)) (suits width height dots m x) (λ b a. a .1) (λ b a. a) a)
+
+-- ---- half the peak
+-- a multiple of u that is not below 0
+per : (u : ℕ) (z : ℤ) → 0 < u → pos 0 ≤ℤ (pos u *ℤ z) → pos 0 ≤ℤ z
+per u (pos n) h k = omega (arith, ordℤ)
+per u (negsuc n) h k = omega (arith, read≤ (pos u ∷ negsuc n ∷ []) (search reify depth 40) k)
+
+at-dot : (T P : ℤ) → pos 0 ≤ℤ (pos 2 *ℤ negsuc 0 *ℤ T +ℤ P) → (pos 2 *ℤ T) ≤ℤ P
+at-dot T P h = show≤ (T ∷ P ∷ []) (search reify depth 40) (omega (arith, read≤ (T ∷ P ∷ []) (search reify depth 40) h))
+
+at-blank : (T P : ℤ) → pos 0 ≤ℤ (pos 2 *ℤ pos 1 *ℤ T +ℤ P) → negℤ P ≤ℤ (pos 2 *ℤ T)
+at-blank T P h =
+    show≤ (T ∷ P ∷ []) (search reify depth 40) (omega (arith, read≤ (T ∷ P ∷ []) (search reify depth 40) h))
+
+module _ (t : Target) (reach : ℕ) (wide : 0 < t .width) (step : 0 < t .step) (near : reach ≤ 6) (dots : List ℕ)
+    (f : Halftone t dots) (toggles-calm : (m : ℕ) → m < cells t → All (Calm t dots) (toggles dots m))
+    (swaps-calm : (m : ℕ) → m < cells t → All (Calm t dots) (swaps (t .width) (t .height) reach dots m)) where
+  toggle-calm : (m : ℕ) → m < cells t → Calm t dots (toggle dots m)
+  unfolding toggles
+  toggle-calm m h = toggles-calm m h .0
+
+  swap-calm : (m n : ℕ) → m < cells t → n < cells t
+      → gap (m / t .width) (n / t .width) ≤ reach → gap (m % t .width) (n % t .width) ≤ reach
+      → (getD dots m 0 ≡ getD dots n 0 → ⊥) → Calm t dots (swap dots m n)
+  swap-calm m n h k rows columns unlike =
+      let apart : m ≡ n → ⊥ = λ e. unlike (ap (λ k. getD dots k 0) e) in
+      let c : IsPartner (t .width) (t .height) reach m n
+      = partners-cover (t .width) (t .height) reach m n wide near k rows columns apart in
+      let suited : suits (t .width) (t .height) dots m (c .offset) ≡ true
+      = ap₂ (λ a b. a && not b) (c .lands-there)
+      (ne-eqb _ _ (λ e. unlike (e ∙ ap (λ k. getD dots k 0) (c .is-there)))) in
+      subst (λ k. Calm t dots (swap dots m k)) (c .is-there)
+      (of-partner (t .width) (t .height) dots m (Calm t dots) (c .offset) (offsets reach) (c .listed)
+      suited (swaps-calm m h))
+
+  abbrev P : ℤ
+  P = pos (t .step) *ℤ peak (t .radius) (t .psf)
+
+  -- a toggle adds step × (2 × s(m) × T(m) + step × P)
+  half : (m : ℕ) → m < cells t → (d : ℕ) → getD dots m 0 ≡ d
+      → pos 0 ≤ℤ (pos 2 *ℤ signOf d *ℤ getD (filteredErrors t dots) m (pos 0) +ℤ P)
+  unfolding toggleSum filteredErrors
+  half m h d e =
+      subst (λ T. pos 0 ≤ℤ (pos 2 *ℤ signOf d *ℤ T +ℤ P))
+      (sym (getD-tabulate (cells t) (filteredError t dots) m (pos 0) h))
+      (subst (λ x. pos 0 ≤ℤ (pos 2 *ℤ signOf x *ℤ filteredError t dots m +ℤ P)) e
+      (per (t .step) (pos 2 *ℤ sign dots m *ℤ filteredError t dots m +ℤ P) step
+      (subst (λ z. pos 0 ≤ℤ z) (toggle-change t dots (f .bits) (f .long) m h) (toggle-calm m h))))
+
+  pub rest-by : Rest t reach dots (filteredErrors t dots)
+  rest-by =
+      record {
+        no-toggle-lowers = toggle-calm;
+        no-swap-lowers = swap-calm;
+        under-dots = λ m h e. at-dot (getD (filteredErrors t dots) m (pos 0)) P (half m h 1 e);
+        under-blanks = λ m h e. at-blank (getD (filteredErrors t dots) m (pos 0)) P (half m h 0 e);
+      }

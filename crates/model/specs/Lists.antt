@@ -1,0 +1,160 @@
+-- Lists of calls (01: Lists of calls): each later call handed what the last one left, and beside it the reference (01:
+-- the plain plate), which is fed the kind of each call and the cells that it names. And what it is to be at rest.
+use mathlib.Core.List.{List, [], _∷_, _++_}
+use mathlib.Core.Logic.{_⊎_}
+use mathlib.Core.Path.{_≡_}
+use Prim.Native.Nat.{ℕ, zero, suc, _+_, _*_, _/_, _%_, _≤_, _<_}
+use lib.IntN.{ℤ, pos, negℤ, _*ℤ_}
+use lib.Signed.{_≤ℤ_}
+use lib.ListN.{getD}
+use Rattle.model.specs.declared.Measures.{Measures}
+use Rattle.model.specs.declared.Stats.{Stats}
+use Rattle.model.specs.declared.ScanResult.{ScanResult}
+use Rattle.model.specs.declared.ConvergeResult.{ConvergeResult}
+use Rattle.model.specs.Psf.{peak}
+use Rattle.model.specs.Error.{Target, targetFor, cellAt, cells, squaredError}
+use Rattle.model.specs.Refusal.{Refusal, firstOf, gap}
+use Rattle.model.specs.State.{dotTotal, toggleNamed, swapNamed, swapAlike}
+use Rattle.model.specs.Reference.{toggle, swap, Reference, Performed, Tried, accepted, declined, attempt, change}
+use Rattle.model.specs.Scan.{toggles, swaps, scan, converge}
+use Rattle.model.specs.Calls.{Reply, result, refused, Outcome, Buffers}
+use Rattle.model.specs.Calls.{toggleCall, swapCall, toggleScanCall, swapScanCall, convergeCall}
+
+-- a later call: its kind and the cells that it names
+pub data Call : Type 0 where
+  toggleAt : (row col : ℕ) → Call
+  swapAt : (row col row′ col′ : ℕ) → Call
+  toggleScan : Call
+  swapScan : Call
+  convergence : Call
+
+-- what one that is not refused answers
+pub data Result : Type 0 where
+  tried : Tried → Result
+  swept : ScanResult → Result
+  rested : ConvergeResult → Result
+
+-- ---- the calls
+-- what a call is handed: the dots and the table as the last one left them, and the last ledger answered
+pub record Held : Type 0 where
+  pub dots : List ℕ
+  pub table : List ℤ
+  pub stats : Stats
+
+-- the last ledger answered: a declined or refused call answers none, and the ledger handed to it stays in use
+abbrev pub latest : Stats → Reply Result → Stats
+latest s (result (tried (accepted s′ d))) = s′
+latest s (result (tried (declined d))) = s
+latest s (result (swept r)) = r .stats
+latest s (result (rested r)) = r .stats
+latest s (refused n) = s
+
+-- the same answer as a result of any call
+abbrev pub answering : {A : Type 0} → (A → Result) → Reply A → Reply Result
+answering f (result a) = result (f a)
+answering f (refused n) = refused n
+
+abbrev pub outcome : {A : Type 0} → (A → Result) → Outcome A Buffers → Outcome Result Buffers
+outcome f o = record { reply = answering f (o .reply); buffer = o .buffer }
+
+abbrev pub handOn : Held → Outcome Result Buffers → Held
+handOn h o =
+    record { dots = o .buffer .dots; table = o .buffer .table; stats = latest (h .stats) (o .reply) }
+
+module _ (m : Measures) (psf gray : List ℕ) where
+  -- one call: the functions are those that the contracts of the public calls cite
+  abbrev pub call : Held → Call → Outcome Result Buffers
+  call h (toggleAt row col) = outcome tried (toggleCall m psf gray (h .dots) (h .table) (h .stats) row col)
+  call h (swapAt row col row′ col′) =
+      outcome tried (swapCall m psf gray (h .dots) (h .table) (h .stats) row col row′ col′)
+  call h toggleScan = outcome swept (toggleScanCall m psf gray (h .dots) (h .table) (h .stats))
+  call h swapScan = outcome swept (swapScanCall m psf gray (h .dots) (h .table) (h .stats))
+  call h convergence = outcome rested (convergeCall m psf gray (h .dots) (h .table) (h .stats))
+
+  -- every answer in order, and what is left
+  unfoldable pub run : Held → List Call → List (Reply Result) × Held
+  run h [] = ([], h)
+  run h (c ∷ l) =
+      let o = call h c in
+      let r = run (handOn h o) l in
+      (o .reply ∷ r .0, r .1)
+
+-- ---- the reference
+-- at a start: the dots of the rule for starts, their E and their number, and the counts 0
+unfoldable pub begin : Target → List ℕ → Reference
+begin t dots =
+    record {
+      dots = dots;
+      start-error = squaredError t dots;
+      start-dots = dotTotal dots;
+      on = 0;
+      off = 0;
+      swaps = 0;
+    }
+
+-- the changes that it has accepted
+abbrev pub acceptedBy : Reference → ℕ
+acceptedBy p = p .on + p .off + p .swaps
+
+pub record Replied : Type 0 where
+  pub reply : Reply Result
+  pub after : Reference
+
+abbrev pub replied : {A : Type 0} → (A → Result) → Performed A → Replied
+replied f done = record { reply = result (f (done .answer)); after = done .after }
+
+-- a refused call changes nothing and answers its number
+abbrev pub unlessRefused : ℕ → Reference → Replied → Replied
+unlessRefused zero p r = r
+unlessRefused (suc n) p r = record { reply = refused (suc n); after = p }
+
+module _ (m : Measures) (psf gray : List ℕ) where
+  -- 8, 9 and 22, the last by its own dots
+  abbrev pub referenceRefusals : List ℕ → Call → List Refusal
+  referenceRefusals dots (toggleAt row col) = toggleNamed m row col
+  referenceRefusals dots (swapAt row col row′ col′) =
+      swapNamed m row col row′ col′ ++ swapAlike m dots row col row′ col′
+  referenceRefusals dots toggleScan = []
+  referenceRefusals dots swapScan = []
+  referenceRefusals dots convergence = []
+
+  -- a call that is not refused
+  abbrev pub does : Reference → Call → Replied
+  does p (toggleAt row col) =
+      replied tried (attempt (targetFor m psf gray) p (toggle (p .dots) (cellAt (m .width) row col)))
+  does p (swapAt row col row′ col′) =
+      replied tried
+      (attempt (targetFor m psf gray) p (swap (p .dots) (cellAt (m .width) row col) (cellAt (m .width) row′ col′)))
+  does p toggleScan = replied swept (scan (targetFor m psf gray) toggles p)
+  does p swapScan = replied swept (scan (targetFor m psf gray) (swaps (m .width) (m .height) (m .reach)) p)
+  does p convergence = replied rested (converge (targetFor m psf gray) (m .reach) p)
+
+  abbrev pub referenceCall : Reference → Call → Replied
+  referenceCall p c = unlessRefused (firstOf (referenceRefusals (p .dots) c)) p (does p c)
+
+  unfoldable pub referenceRun : Reference → List Call → List (Reply Result) × Reference
+  referenceRun p [] = ([], p)
+  referenceRun p (c ∷ l) =
+      let o = referenceCall p c in
+      let r = referenceRun (o .after) l in
+      (o .reply ∷ r .0, r .1)
+
+-- what may be answered in a list that a start begins: of the refusals, 8, 9 and 22
+abbrev pub Expected : Reply Result → Type 0
+Expected (result r) = Unit {0}
+Expected (refused n) = (n ≡ 8) ⊎ ((n ≡ 9) ⊎ (n ≡ 22))
+
+-- ---- rest: no toggle, no swap within reach lowers E; the two half-peak bounds
+pub record Rest (t : Target) (reach : ℕ) (dots : List ℕ) (table : List ℤ) : Type 0 where
+  pub no-toggle-lowers : (m : ℕ) → m < cells t → pos 0 ≤ℤ change t dots (toggle dots m)
+  -- within reach: two cells, their dots unlike, that differ by at most the reach in row and in column
+  pub no-swap-lowers : (m n : ℕ) → m < cells t → n < cells t
+      → gap (m / t .width) (n / t .width) ≤ reach → gap (m % t .width) (n % t .width) ≤ reach
+      → (getD dots m 0 ≡ getD dots n 0 → ⊥)
+      → pos 0 ≤ℤ change t dots (swap dots m n)
+  -- twice the table is at most step × P under every dot
+  pub under-dots : (m : ℕ) → m < cells t → getD dots m 0 ≡ 1
+      → (pos 2 *ℤ getD table m (pos 0)) ≤ℤ (pos (t .step) *ℤ peak (t .radius) (t .psf))
+  -- and at least -step × P under every blank
+  pub under-blanks : (m : ℕ) → m < cells t → getD dots m 0 ≡ 0
+      → negℤ (pos (t .step) *ℤ peak (t .radius) (t .psf)) ≤ℤ (pos 2 *ℤ getD table m (pos 0))

@@ -1,0 +1,85 @@
+-- The partners of a cell in a swap scan: the offsets within reach in document 01's order, farthest first, and the cells
+-- where they land.
+use mathlib.Core.Bool.{Bool, _&&_}
+use mathlib.Core.List.{List, [], _∷_, _++_}
+use mathlib.Core.Path.{_≡_}
+use Prim.Native.Nat.{ℕ, zero, suc, _+_, _*_, _/_, _%_, _≤_, _<_}
+use lib.Dec.{eqb}
+use lib.IntN.{ℤ, pos, natAbs, _+ℤ_, _-ℤ_, _*ℤ_}
+use lib.ListN.{length, getD}
+use lib.Signed.{leZ, ltZ}
+use Rattle.model.specs.Basic.{pick, squareAt}
+use Rattle.model.specs.Error.{cellAt}
+
+-- rows down, columns right
+pub record Offset : Type 0 where
+  pub down : ℤ
+  pub right : ℤ
+
+-- the sum of squares of its coordinates
+abbrev pub far : Offset → ℕ
+far o = natAbs (o .down) * natAbs (o .down) + natAbs (o .right) * natAbs (o .right)
+
+-- ---- the offsets with both coordinates from -q to q
+module _ (q : ℕ) where
+  -- the k-th, smaller row offsets first, then smaller column offsets
+  abbrev pub offsetAt : ℕ → Offset
+  offsetAt k =
+      record { down = pos (k / (2 * q + 1)) -ℤ pos q; right = pos (k % (2 * q + 1)) -ℤ pos q }
+
+  -- of the n from the k-th on, those whose sum of squares is v, in that order
+  unfoldable pub offsetsOf : (v k n : ℕ) → List Offset
+  offsetsOf v k zero = []
+  offsetsOf v k (suc n) =
+      pick (eqb (far (offsetAt k)) v) (offsetAt k ∷ offsetsOf v (suc k) n) (offsetsOf v (suc k) n)
+
+  -- by falling sum of squares, from v down to 1, which leaves out (0,0)
+  unfoldable pub offsetsFrom : (v : ℕ) → List Offset
+  offsetsFrom zero = []
+  offsetsFrom (suc v) = offsetsOf (suc v) 0 ((2 * q + 1) * (2 * q + 1)) ++ offsetsFrom v
+
+-- all of them save (0,0), farthest first
+unfoldable pub offsets : (reach : ℕ) → List Offset
+offsets q = offsetsFrom q (2 * q * q)
+
+-- as the code holds them: the first `count` of two lists, each coordinate with 6 added
+abbrev pub biased : (down right : ℕ) → Offset
+biased down right = record { down = pos down -ℤ pos 6; right = pos right -ℤ pos 6 }
+
+pub record HoldsOffsets (reach : ℕ) (downs rights : List ℕ) (count : ℕ) : Type 0 where
+  pub count-is : count ≡ length (offsets reach)
+  pub count-small : (count ≤ length downs) × (count ≤ length rights)
+  pub near : (k : ℕ) → k < count → (getD downs k 0 ≤ 12) × (getD rights k 0 ≤ 12)
+  pub at : (k : ℕ) → k < count → getD (offsets reach) k (biased 6 6) ≡ biased (getD downs k 0) (getD rights k 0)
+
+-- 255 × (P - c) at such an offset, from the kernel
+abbrev pub worthAt : (radius : ℕ) (c : List ℤ) (down right : ℕ) → ℤ
+worthAt radius c down right =
+    pos 255
+    *ℤ (squareAt (pos 0) (2 * radius) c (pos 0) (pos 0)
+    -ℤ squareAt (pos 0) (2 * radius) c (pos 6 -ℤ pos down) (pos 6 -ℤ pos right))
+
+-- and the first `count` of a list that holds it for each
+pub record HoldsWorths (radius : ℕ) (c : List ℤ) (downs rights : List ℕ) (count : ℕ) (worths : List ℤ) : Type 0 where
+  pub long : count ≤ length worths
+  pub at : (k : ℕ) → k < count → getD worths k (pos 0) ≡ worthAt radius c (getD downs k 0) (getD rights k 0)
+
+-- ---- where an offset leads from cell m
+module _ (width : ℕ) where
+  abbrev pub partnerRow : ℕ → Offset → ℤ
+  partnerRow m o = pos (m / width) +ℤ o .down
+
+  abbrev pub partnerColumn : ℕ → Offset → ℤ
+  partnerColumn m o = pos (m % width) +ℤ o .right
+
+  -- the cell there, where it lands on the plate
+  abbrev pub partner : ℕ → Offset → ℕ
+  partner m o = cellAt width (natAbs (partnerRow m o)) (natAbs (partnerColumn m o))
+
+-- a row or a column on the plate
+abbrev pub inside : (limit : ℕ) → ℤ → Bool
+inside limit z = leZ (pos 0) z && ltZ z (pos limit)
+
+-- it lands on the plate
+abbrev pub lands : (width height : ℕ) → ℕ → Offset → Bool
+lands width height m o = inside height (partnerRow width m o) && inside width (partnerColumn width m o)

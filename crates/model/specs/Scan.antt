@@ -1,0 +1,121 @@
+-- Scans and settling (here: convergence) by the rules of document 01, as the reference makes them.
+use mathlib.Core.Bool.{Bool, true, _&&_, not}
+use mathlib.Core.List.{List, [], _∷_}
+use mathlib.Core.Path.{_≡_}
+use Prim.Native.Nat.{ℕ, zero, suc, _+_}
+use lib.Dec.{eqb}
+use lib.IntN.{natAbs}
+use lib.ListN.{getD, drop}
+use Rattle.model.specs.declared.ScanResult.{ScanResult}
+use Rattle.model.specs.declared.ConvergeResult.{ConvergeResult}
+use Rattle.model.specs.Basic.{pick}
+use Rattle.model.specs.Error.{Target, cells, squaredError}
+use Rattle.model.specs.Partners.{Offset, offsets, lands, partner}
+use Rattle.model.specs.Reference.{Move, toggle, swap, Reference, reference, Performed, accept, statsOf, lowers}
+
+-- ---- what a scan attempts at cell m of these dots, in order, up to the first accepted
+abbrev pub Rule : Type 0
+Rule = List ℕ → ℕ → List Move
+
+-- a toggle scan: a toggle
+unfoldable pub toggles : Rule
+toggles dots m = toggle dots m ∷ []
+
+module _ (width height : ℕ) where
+  -- an offset off the plate or with an equal dot is passed over
+  abbrev pub suits : List ℕ → ℕ → Offset → Bool
+  suits dots m o = lands width height m o && not (eqb (getD dots m 0) (getD dots (partner width m o) 0))
+
+  unfoldable pub swapsBy : List Offset → Rule
+  swapsBy [] dots m = []
+  swapsBy (o ∷ l) dots m =
+      pick (suits dots m o) (swap dots m (partner width m o) ∷ swapsBy l dots m) (swapsBy l dots m)
+
+  -- a swap scan with that reach: swaps with the partners, farthest first
+  abbrev pub swaps : (reach : ℕ) → Rule
+  swaps reach = swapsBy (offsets reach)
+
+  -- the same from the k-th offset on
+  abbrev pub swapsAfter : (reach k : ℕ) → Rule
+  swapsAfter reach k = swapsBy (drop k (offsets reach))
+
+-- ---- a scan under way: the reference, and the changes that it has accepted
+pub record Sweep : Type 0 where
+  pub after : Reference
+  pub changes : ℕ
+
+-- the same with these dots and the figures of this result
+abbrev pub sweepOf : List ℕ → ScanResult → Sweep
+sweepOf dots r = record { after = reference dots (r .stats); changes = r .changes }
+
+-- a settling under way: the reference, and the scans that it has made
+pub record Convergence : Type 0 where
+  pub after : Reference
+  pub scans : ℕ
+
+module _ (t : Target) where
+  -- a partner at that offset suits, and the swap with it lowers E
+  pub record Lowers (dots : List ℕ) (m : ℕ) (o : Offset) : Type 0 where
+    pub suited : suits (t .width) (t .height) dots m o ≡ true
+    pub lower : lowers t dots (swap dots m (partner (t .width) m o)) ≡ true
+
+  -- attempts in order, up to the first accepted
+  unfoldable pub tryEach : Sweep → List Move → Sweep
+  tryEach s [] = s
+  tryEach s (v ∷ l) =
+      pick (lowers t (s .after .dots) v)
+      (record { after = accept (s .after) v; changes = suc (s .changes) })
+      (tryEach s l)
+
+  -- a scan at cell m, with that result so far
+  abbrev pub visit : Rule → List ℕ → ScanResult → ℕ → Sweep
+  visit rule dots r m = tryEach (sweepOf dots r) (rule dots m)
+
+  -- a scan of the first n cells, in raster order
+  unfoldable pub sweepTo : Rule → Reference → ℕ → Sweep
+  sweepTo rule p zero = record { after = p; changes = 0 }
+  sweepTo rule p (suc m) = tryEach (sweepTo rule p m) (rule (sweepTo rule p m .after .dots) m)
+
+  -- of all cells
+  abbrev pub sweep : Rule → Reference → Sweep
+  sweep rule p = sweepTo rule p (cells t)
+
+  -- it answers the new ledger and its accepted changes
+  unfoldable pub resultOf : Sweep → ScanResult
+  resultOf s = record { stats = statsOf t (s .after); changes = s .changes }
+
+  unfoldable pub scan : Rule → Reference → Performed ScanResult
+  scan rule p = record { answer = resultOf (sweep rule p); after = sweep rule p .after }
+
+  module _ (reach : ℕ) where
+    abbrev pub swapping : Rule
+    swapping = swaps (t .width) (t .height) reach
+
+    -- toggle scans until one accepts nothing, then one swap scan; if that accepted something, again from the toggle
+    -- scans: one turn of this, n scans being made, and what follows where something was accepted
+    abbrev pub turn : (Reference → ℕ → Convergence) → Reference → ℕ → Convergence
+    turn follow p n =
+        let a = sweep toggles p in
+        let b = sweep swapping (a .after) in
+        let again = follow (a .after) (n + 1) in
+        let anew = follow (b .after) (n + 2) in
+        let end : Convergence = pick (eqb (b .changes) 0) (record { after = b .after; scans = n + 2 }) anew in
+        pick (eqb (a .changes) 0) end again
+
+    -- as many turns as the fuel allows
+    unfoldable pub convergeIn : (fuel : ℕ) → Reference → ℕ → Convergence
+    convergeIn zero p n = record { after = p; scans = n }
+    convergeIn (suc fuel) p n = turn (convergeIn fuel) p n
+
+    -- Each turn but the last lowers E, a whole number not below 0, so with this fuel every turn is made: that it keeps
+    -- to the rule, and nothing else does, are `converge-rule` and `converge-only` of proofs/Converge.antt.
+    unfoldable pub convergeFrom : Reference → ℕ → Convergence
+    convergeFrom p n = convergeIn (suc (natAbs (squaredError t (p .dots)))) p n
+
+    -- it answers the ledger and the number of scans
+    unfoldable pub converge : Reference → Performed ConvergeResult
+    converge p =
+        record {
+          answer = record { stats = statsOf t (convergeFrom p 0 .after); scans = convergeFrom p 0 .scans };
+          after = convergeFrom p 0 .after;
+        }
