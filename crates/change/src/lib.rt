@@ -1,9 +1,10 @@
 // One change of a halftone: what a toggle and a swap would add to the squared error, decided by the table in a few
 // operations; and making it, by which a dot, the table and the ledger change together.
+ghost use mathlib.Core.Bool.{_&&_, not};
 ghost use mathlib.Core.Path.{_≡_};
 ghost use Prim.Native.Nat.{_+_, _*_, _^_, _<_, _≤_};
 ghost use lib.Dec.{eqb};
-ghost use lib.IntN.{pos, natAbs, _-ℤ_, _*ℤ_};
+ghost use lib.IntN.{pos, natAbs, _+ℤ_, _-ℤ_, _*ℤ_};
 ghost use lib.ListN.{length, getD};
 ghost use lib.Signed.{ltZ};
 ghost use Rattle.model.specs.Basic.{pick, AtMost, squareAt};
@@ -67,6 +68,17 @@ pub fn peak(radius: usize, c: &[i32]) -> i32
     between(radius, c, 0, 0, 0, 0)
 }
 
+// s(m) × (T(m) - T(n))
+fn difference(dots: &[u8], table: &[i32], m: usize, n: usize) -> i32
+    requires { ⌜ (m < length (now dots)) × (m < length (now table)) × (n < length (now table)) ⌝ }
+    requires { ⌜ Small mostFiltered (now table) ⌝ }
+    ensures { λ r. ⌜ r ≡ sign (now (dots .entry)) m
+        *ℤ (getD (now (table .entry)) m (pos 0) -ℤ getD (now (table .entry)) n (pos 0)) ⌝ }
+    ensures { λ r. ⌜ natAbs r ≤ 2 * mostFiltered ⌝ }
+{
+    signed(dots[m], table[m] - table[n])
+}
+
 // what a swap of the cells m and n adds: 510 × (s(m) × (T(m) - T(n)) + 255 × (P - c(m - n)))
 pub fn swap_change(peak: i32, apart: i32, dots: &[u8], table: &[i32], m: usize, n: usize) -> i64
     requires { ⌜ (m < length (now dots)) × (m < length (now table)) × (n < length (now table)) ⌝ }
@@ -75,7 +87,22 @@ pub fn swap_change(peak: i32, apart: i32, dots: &[u8], table: &[i32], m: usize, 
         (getD (now (table .entry)) m (pos 0)) (getD (now (table .entry)) n (pos 0)) ⌝ }
     ensures { λ r. ⌜ natAbs r ≤ 545469235200 ⌝ }
 {
-    510 * ((signed(dots[m], table[m] - table[n]) + 255 * (peak - apart)) as i64)
+    510 * ((difference(dots, table, m, n) + 255 * (peak - apart)) as i64)
+}
+
+// whether m and n have unlike dots and their swap lowers the squared error; `worth` is 255 × (P - c(m - n)). The sum is
+// tested first: it seldom is below 0, while dots are as often unlike as alike.
+pub fn lower_swap(dots: &[u8], table: &[i32], m: usize, n: usize, worth: i32) -> bool
+    requires { ⌜ (m < length (now dots)) × (n < length (now dots)) × (length (now table) ≡ length (now dots)) ⌝ }
+    requires { ⌜ Small mostFiltered (now table) × (natAbs worth ≤ 534773760) ⌝ }
+    ensures { λ r. ⌜ r ≡ (not (eqb (getD (now (dots .entry)) m 0) (getD (now (dots .entry)) n 0))
+        && ltZ (sign (now (dots .entry)) m
+        *ℤ (getD (now (table .entry)) m (pos 0) -ℤ getD (now (table .entry)) n (pos 0)) +ℤ worth) (pos 0)) ⌝ }
+{
+    if difference(dots, table, m, n) + worth < 0 {
+        return dots[m] != dots[n];
+    }
+    false
 }
 
 // whether a change is accepted: exactly when it is below 0

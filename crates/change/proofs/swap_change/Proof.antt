@@ -1,83 +1,50 @@
 -- `change::swap_change` meets its contract: every step is small enough for its width.
+use Prim.Native.Nat.{ℕ}
 use lib.Dec.{lit<}
 use lib.IntN.{ℤ, pos, _-ℤ_, _*ℤ_}
 use lib.ListN.{getD}
-use Prim.Native.Nat.{ℕ}
 use mir.Syntax.{w32, w64}
 use mir.Val.{toZ, ofZ}
 use borrow.Author.Needs.{needs}
-use Rattle.algebra.proofs.Machine.{Holds, literal, of-small, size-of, cast-fits, cast-holds}
+use Rattle.algebra.proofs.Machine.{Holds, literal, of-small, named, size-of, cast-fits, cast-holds}
 use Rattle.algebra.proofs.Machine.{add-fits, add-holds, sub-fits, sub-holds, mul-fits, mul-holds}
 use Rattle.model.specs.Change.{sign, swapSum}
-use Rattle.model.specs.Window.{mostFiltered}
-use Rattle.change.proofs.Laws.{signed-holds}
 use Rattle.change.proofs.swap_change.Statement.{statement}
 use Rattle.change.proofs.swap_change.Tie as tie
 
-shared-slice-read-signed : tie.Need-shared-slice-read-signed
-shared-slice-read-signed c = search needs
+difference-requires : tie.Need-difference-requires
+difference-requires c κs = search needs
 
-mul-signed : tie.Need-mul-signed
-mul-signed c = search needs
+-- the two terms of the sum
+module _ (c : tie.After-difference) where
+  abbrev s : tie.Start
+  s = c .before .before
 
-shared-slice-copy-out-signed : tie.Need-shared-slice-copy-out-signed
-shared-slice-copy-out-signed c = search needs
-
-mul-signed-2 : tie.Need-mul-signed-2
-mul-signed-2 c = search needs
-
-shared-slice-copy-out-signed-2 : tie.Need-shared-slice-copy-out-signed-2
-shared-slice-copy-out-signed-2 c = search needs
-
--- the table's entries, P and c(m - n), as the locals hold them
-module _ (s : tie.Start) where
   abbrev entry : ℕ → ℤ
   entry q = getD (s .args .table .now) q (pos 0)
 
-  entry-held : (q : ℕ) → Holds w32 (ofZ w32 (entry q)) (entry q) mostFiltered
-  entry-held q = of-small w32 (entry q) (s .pre .1 .2 .each q) (lit< tt)
+  first : Holds w32 (ofZ w32 (c .difference .result))
+      (sign (s .args .dots .now) (s .args .m) *ℤ (entry (s .args .m) -ℤ entry (s .args .n))) 534773760
+  first = named (c .difference .ensures .0) (of-small w32 (c .difference .result) (c .difference .ensures .1) (lit< tt))
 
+  -- P and c(m - n), as their locals hold them
   peak-held : Holds w32 (ofZ w32 (s .args .peak)) (s .args .peak) 1048576
   peak-held = of-small w32 (s .args .peak) (s .pre .1 .0) (lit< tt)
 
   apart-held : Holds w32 (ofZ w32 (s .args .apart)) (s .args .apart) 1048576
   apart-held = of-small w32 (s .args .apart) (s .pre .1 .1) (lit< tt)
 
-sub-signed : tie.Need-sub-signed
-sub-signed c =
-    let s = c .before .before .before .before in
-    sub-fits (entry-held s (s .args .m)) (entry-held s (s .args .n)) (lit< tt)
-
-signed-requires : tie.Need-signed-requires
-signed-requires c κs =
-    let s = c .before .before .before .before in
-    size-of (sub-holds (entry-held s (s .args .m)) (entry-held s (s .args .n)) (lit< tt))
-
--- the two terms of the sum
-module _ (c : tie.After-signed) where
-  abbrev s : tie.Start
-  s = c .before .before .before .before .before
-
-  abbrev difference : ℤ
-  difference = entry s (s .args .m) -ℤ entry s (s .args .n)
-
-  first : Holds w32 (ofZ w32 (c .signed .result)) (sign (s .args .dots .now) (s .args .m) *ℤ difference) 534773760
-  first =
-      signed-holds (c .signed .result) (sign (s .args .dots .now) (s .args .m))
-      (sub-holds (entry-held s (s .args .m)) (entry-held s (s .args .n)) (lit< tt)) (lit< tt) (c .signed .ensures)
-
   abbrev offset : ℕ
   offset = ofZ w32 (toZ w32 (ofZ w32 (s .args .peak)) -ℤ toZ w32 (ofZ w32 (s .args .apart)))
 
   second : Holds w32 (ofZ w32 (pos 255 *ℤ toZ w32 offset)) (pos 255 *ℤ (s .args .peak -ℤ s .args .apart)) 534773760
-  second = mul-holds (literal w32 255 tt) (sub-holds (peak-held s) (apart-held s) (lit< tt)) (lit< tt)
+  second = mul-holds (literal w32 255 tt) (sub-holds peak-held apart-held (lit< tt)) (lit< tt)
 
 sub-result : tie.Need-sub-result
-sub-result c = sub-fits (peak-held (s c)) (apart-held (s c)) (lit< tt)
+sub-result c = sub-fits (peak-held c) (apart-held c) (lit< tt)
 
 mul-result : tie.Need-mul-result
-mul-result c =
-    mul-fits (literal w32 255 tt) (sub-holds (peak-held (s c)) (apart-held (s c)) (lit< tt)) (lit< tt)
+mul-result c = mul-fits (literal w32 255 tt) (sub-holds (peak-held c) (apart-held c) (lit< tt)) (lit< tt)
 
 add-result : tie.Need-add-result
 add-result c = add-fits (first c) (second c) (lit< tt)
@@ -99,17 +66,4 @@ returns c =
 pub swap-change-spec : {M : Type 1} → statement M
 swap-change-spec =
     tie.close
-    (tie.spec
-    shared-slice-read-signed
-    mul-signed
-    shared-slice-copy-out-signed
-    mul-signed-2
-    shared-slice-copy-out-signed-2
-    sub-signed
-    signed-requires
-    sub-result
-    mul-result
-    add-result
-    cast-result
-    mul-result-2
-    returns)
+    (tie.spec difference-requires sub-result mul-result add-result cast-result mul-result-2 returns)

@@ -1,0 +1,2 @@
+-- The table of offsets as the code reads it.
+pub mod Codes
