@@ -1,0 +1,78 @@
+-- What a scan makes of one cell of a judged plate: nothing is accepted and all stays, or one change is accepted.
+use mathlib.Core.Bool.{true, false}
+use mathlib.Core.List.{List}
+use mathlib.Core.Path.{_≡_, refl, sym, _∙_, ap, subst}
+use Prim.Native.Nat.{ℕ, _+_, _≤_, _<_}
+use native.Mathlib.Numerals.{add-one}
+use lib.IntN.{ℤ}
+use lib.ListN.{length, getD}
+use Rattle.model.specs.declared.Measures.{Measures}
+use Rattle.model.specs.declared.Stats.{Stats}
+use Rattle.model.specs.declared.ScanResult.{ScanResult}
+use Rattle.model.specs.Basic.{pick}
+use Rattle.model.specs.Error.{Target, targetFor, filteredErrors}
+use Rattle.model.specs.Reference.{Move, toggle, swap, reference, accept, statsOf, lowers}
+use Rattle.model.specs.Partners.{Offset, offsets, biased, partner}
+use Rattle.model.specs.State.{LaterFits}
+use Rattle.model.specs.Scan.{toggles, swapsAfter, Sweep, sweepOf, Lowers, tryEach, visit, resultOf}
+use Rattle.model.proofs.Attempts.{entry-stats}
+use Rattle.model.proofs.Scan.{more}
+use Rattle.model.proofs.Loop.{left-none, taken}
+
+module _ (m : Measures) (psf gray dots : List ℕ) (r : ScanResult) where
+  abbrev t : Target
+  t = targetFor m psf gray
+
+  -- the result, the dots and the table are those of the reference
+  abbrev Leaves : ScanResult → List ℕ → List ℤ → Sweep → Type 0
+  Leaves r′ dots′ table′ s =
+      (r′ ≡ resultOf t s) × ((dots′ ≡ s .after .dots) × (table′ ≡ filteredErrors t (s .after .dots)))
+
+  -- nothing is accepted
+  pub visit-none : {table : List ℤ} → LaterFits m psf gray dots table (r .stats)
+      → {s : Sweep} → s ≡ sweepOf dots r → Leaves r dots table s
+  unfolding resultOf
+  visit-none {table} f e =
+      rw e (
+        λ i. record { stats = entry-stats m psf gray dots table (r .stats) f i; changes = r .changes },
+        (refl, f .state .table-is),
+      )
+
+  -- that change is accepted
+  pub visit-one : (v : Move) {s : Sweep} → s ≡ more (sweepOf dots r) v
+      → {stats′ : Stats} {dots′ : List ℕ} {table′ : List ℤ}
+      → stats′ ≡ statsOf t (accept (reference dots (r .stats)) v)
+      → dots′ ≡ accept (reference dots (r .stats)) v .dots
+      → table′ ≡ filteredErrors t (accept (reference dots (r .stats)) v .dots)
+      → Leaves (record { stats = stats′; changes = r .changes + 1 }) dots′ table′ s
+  unfolding resultOf
+  visit-one v e g k l = rw e (λ i. record { stats = g i; changes = add-one (r .changes) i }, (k, l))
+
+-- ---- a toggle scan at cell n
+module _ (t : Target) (dots : List ℕ) (r : ScanResult) (n : ℕ) where
+  pub toggle-declined : lowers t dots (toggle dots n) ≡ false → visit t toggles dots r n ≡ sweepOf dots r
+  unfolding toggles tryEach
+  toggle-declined e = ap (λ b. pick b (more (sweepOf dots r) (toggle dots n)) (sweepOf dots r)) e
+
+  pub toggle-accepted : lowers t dots (toggle dots n) ≡ true
+      → visit t toggles dots r n ≡ more (sweepOf dots r) (toggle dots n)
+  unfolding toggles tryEach
+  toggle-accepted e = ap (λ b. pick b (more (sweepOf dots r) (toggle dots n)) (sweepOf dots r)) e
+
+-- ---- a swap scan at cell n, from the j-th offset on
+module _ (t : Target) (reach : ℕ) (dots : List ℕ) (r : ScanResult) (n j : ℕ) where
+  abbrev visited : Sweep
+  visited = visit t (swapsAfter (t .width) (t .height) reach j) dots r n
+
+  -- none is left
+  pub swaps-over : length (offsets reach) ≤ j → visited ≡ sweepOf dots r
+  swaps-over = left-none t reach (sweepOf dots r) n j
+
+  -- the swap with the cell k at that offset is accepted
+  pub swap-accepted : j < length (offsets reach) → {o : Offset} → getD (offsets reach) j (biased 6 6) ≡ o
+      → Lowers t dots n o → {k : ℕ} → partner (t .width) n o ≡ k
+      → visited ≡ more (sweepOf dots r) (swap dots n k)
+  swap-accepted h {o} e l there =
+      let first : Lowers t dots n (getD (offsets reach) j (biased 6 6)) = subst (Lowers t dots n) (sym e) l in
+      taken t reach (sweepOf dots r) n j h (first .suited) (first .lower)
+      ∙ ap (λ i. more (sweepOf dots r) (swap dots n i)) (ap (partner (t .width) n) e ∙ there)

@@ -1,0 +1,361 @@
+// Scans and settling of a judged plate whose kernel is c. A trial is decided by the table in a few operations; a change
+// that is accepted updates the window of each cell that it turns. Where psf and gray are not read, they are there for
+// the contract.
+ghost use mathlib.Core.Bool.{_&&_};
+ghost use mathlib.Core.Path.{_≡_};
+ghost use Prim.Native.Nat.{_^_, _≤_, _<_};
+ghost use lib.ListN.{length, getD};
+ghost use Rattle.model.specs.Error.{targetFor, cellAt, filteredErrors};
+ghost use Rattle.model.specs.Window.{HoldsKernel};
+ghost use Rattle.model.specs.Refusal.{HalftoneFits};
+ghost use Rattle.model.specs.State.{LaterFits};
+ghost use Rattle.model.specs.Reference.{swap, lowers};
+ghost use Rattle.model.specs.Partners.{biased, partner, worthAt, HoldsOffsets, HoldsWorths};
+ghost use Rattle.model.specs.Scan.{toggles, suits, Lowers, swapsAfter, visit, resultOf};
+ghost use Rattle.model.specs.Calls.{toggleScanned, swapScanned, atRest};
+use change::lower_swap;
+use change::lowers as is_lower;
+use model::ConvergeResult;
+use model::Measures;
+use model::ScanResult;
+use model::Stats;
+use partners::Cell;
+use partners::next;
+use partners::partner_cell;
+use partners::weigh_offsets;
+use partners::within_reach;
+use trial::make_swap;
+use trial::make_toggle;
+use trial::weigh_swap;
+use trial::weigh_toggle;
+
+// a toggle scan at one cell
+fn toggle_cell(
+    measures: Measures,
+    psf: &[u8],
+    gray: &[u8],
+    c: &[i32],
+    dots: &mut [u8],
+    table: &mut [i32],
+    scan: ScanResult,
+    at: Cell,
+) -> ScanResult
+    requires { ⌜ LaterFits measures (now psf) (now gray) (now dots) (now table) (scan .stats) ⌝ }
+    requires { ⌜ HoldsKernel (measures .radius) (now psf) (now c) ⌝ }
+    requires { ⌜ (at .row < measures .height) × (at .col < measures .width) × (scan .changes < 2 ^ 63) ⌝ }
+    ensures { λ r. ⌜ r ≡ resultOf (targetFor measures (now (psf .entry)) (now (gray .entry)))
+        (visit (targetFor measures (now (psf .entry)) (now (gray .entry))) toggles
+        (now (dots .entry)) scan (cellAt (measures .width) (at .row) (at .col))) ⌝ }
+    ensures { λ _. ⌜ now (dots .exit) ≡ visit (targetFor measures (now (psf .entry)) (now (gray .entry))) toggles
+        (now (dots .entry)) scan (cellAt (measures .width) (at .row) (at .col)) .after .dots ⌝ }
+    ensures { λ _. ⌜ now (table .exit) ≡ filteredErrors (targetFor measures (now (psf .entry)) (now (gray .entry)))
+        (visit (targetFor measures (now (psf .entry)) (now (gray .entry))) toggles
+        (now (dots .entry)) scan (cellAt (measures .width) (at .row) (at .col)) .after .dots) ⌝ }
+{
+    let m = at.row * measures.width + at.col;
+    let delta = weigh_toggle(measures, psf, gray, c, dots, table, m);
+    if is_lower(delta) {
+        let stats = make_toggle(
+            measures,
+            psf,
+            gray,
+            c,
+            dots,
+            table,
+            scan.stats,
+            at.row,
+            at.col,
+            delta,
+        );
+        return ScanResult {
+            stats: stats,
+            changes: scan.changes + 1,
+        };
+    }
+    scan
+}
+
+// A toggle scan.
+pub fn toggle_all(
+    measures: Measures,
+    psf: &[u8],
+    gray: &[u8],
+    c: &[i32],
+    dots: &mut [u8],
+    table: &mut [i32],
+    stats: Stats,
+) -> ScanResult
+    requires { ⌜ LaterFits measures (now psf) (now gray) (now dots) (now table) stats ⌝ }
+    requires { ⌜ HoldsKernel (measures .radius) (now psf) (now c) ⌝ }
+    ensures { λ r. ⌜ r ≡ toggleScanned measures (now (psf .entry)) (now (gray .entry)) (now (dots .entry)) stats
+        .answer ⌝ }
+    ensures { λ _. ⌜ now (dots .exit) ≡ toggleScanned measures (now (psf .entry)) (now (gray .entry))
+        (now (dots .entry)) stats .after .dots ⌝ }
+    ensures { λ _. ⌜ now (table .exit) ≡ filteredErrors (targetFor measures (now (psf .entry)) (now (gray .entry)))
+        (toggleScanned measures (now (psf .entry)) (now (gray .entry)) (now (dots .entry)) stats .after .dots) ⌝ }
+{
+    let mut scan = ScanResult {
+        stats: stats,
+        changes: 0,
+    };
+    let mut cell = Cell { row: 0, col: 0 };
+    while cell.row < measures.height {
+        scan = toggle_cell(measures, psf, gray, c, dots, table, scan, cell);
+        cell = next(measures.width, cell);
+    }
+    scan
+}
+
+// One trial of a swap scan: whether the partner at that offset, each coordinate with 6 added, suits and the swap with
+// it lowers the squared error; `worth` is 255 × (P - c) of the offset.
+fn lowering(
+    measures: Measures,
+    psf: &[u8],
+    gray: &[u8],
+    c: &[i32],
+    dots: &[u8],
+    table: &[i32],
+    at: Cell,
+    down: u8,
+    right: u8,
+    worth: i32,
+) -> bool
+    requires { ⌜ HalftoneFits (measures .width) (measures .height) (measures .radius) (now psf) (now gray) (now dots)
+        (length (now table)) ⌝ }
+    requires { ⌜ now table ≡ filteredErrors (targetFor measures (now psf) (now gray)) (now dots) ⌝ }
+    requires { ⌜ HoldsKernel (measures .radius) (now psf) (now c) ⌝ }
+    requires { ⌜ (at .row < measures .height) × (at .col < measures .width) ⌝ }
+    requires { ⌜ worth ≡ worthAt (measures .radius) (now c) down right ⌝ }
+    ensures { λ r. ⌜ r ≡ (suits (measures .width) (measures .height) (now (dots .entry))
+        (cellAt (measures .width) (at .row) (at .col)) (biased down right)
+        && lowers (targetFor measures (now (psf .entry)) (now (gray .entry))) (now (dots .entry))
+        (swap (now (dots .entry)) (cellAt (measures .width) (at .row) (at .col))
+        (partner (measures .width) (cellAt (measures .width) (at .row) (at .col)) (biased down right)))) ⌝ }
+{
+    let m = at.row * measures.width + at.col;
+    let n = partner_cell(measures.width, measures.height, at, down, right);
+    if table.len() <= n {
+        return false;
+    }
+    lower_swap(dots, table, m, n, worth)
+}
+
+// The swap of a cell with the partner found, if one was.
+fn swap_cell(
+    measures: Measures,
+    psf: &[u8],
+    gray: &[u8],
+    c: &[i32],
+    downs: &[u8],
+    rights: &[u8],
+    count: usize,
+    dots: &mut [u8],
+    table: &mut [i32],
+    scan: ScanResult,
+    at: Cell,
+    found: usize,
+) -> ScanResult
+    requires { ⌜ LaterFits measures (now psf) (now gray) (now dots) (now table) (scan .stats) ⌝ }
+    requires { ⌜ HoldsKernel (measures .radius) (now psf) (now c) ⌝ }
+    requires { ⌜ HoldsOffsets (measures .reach) (now downs) (now rights) count ⌝ }
+    requires { ⌜ (at .row < measures .height) × (at .col < measures .width) × (scan .changes < 2 ^ 63) ⌝ }
+    requires { ⌜ (found ≤ count) × (found < count → Lowers (targetFor measures (now psf) (now gray)) (now dots)
+        (cellAt (measures .width) (at .row) (at .col))
+        (biased (getD (now downs) found 0) (getD (now rights) found 0))) ⌝ }
+    ensures { λ r. ⌜ r ≡ resultOf (targetFor measures (now (psf .entry)) (now (gray .entry)))
+        (visit (targetFor measures (now (psf .entry)) (now (gray .entry)))
+        (swapsAfter (measures .width) (measures .height) (measures .reach) found)
+        (now (dots .entry)) scan (cellAt (measures .width) (at .row) (at .col))) ⌝ }
+    ensures { λ _. ⌜ now (dots .exit) ≡ visit (targetFor measures (now (psf .entry)) (now (gray .entry)))
+        (swapsAfter (measures .width) (measures .height) (measures .reach) found)
+        (now (dots .entry)) scan (cellAt (measures .width) (at .row) (at .col)) .after .dots ⌝ }
+    ensures { λ _. ⌜ now (table .exit) ≡ filteredErrors (targetFor measures (now (psf .entry)) (now (gray .entry)))
+        (visit (targetFor measures (now (psf .entry)) (now (gray .entry)))
+        (swapsAfter (measures .width) (measures .height) (measures .reach) found)
+        (now (dots .entry)) scan (cellAt (measures .width) (at .row) (at .col)) .after .dots) ⌝ }
+{
+    if count <= found {
+        return scan;
+    }
+    let row2 = at.row + downs[found] as usize - 6;
+    let col2 = at.col + rights[found] as usize - 6;
+    let delta = weigh_swap(
+        measures,
+        psf,
+        gray,
+        c,
+        dots,
+        table,
+        at.row,
+        at.col,
+        row2,
+        col2,
+    );
+    let stats = make_swap(
+        measures,
+        psf,
+        gray,
+        c,
+        dots,
+        table,
+        scan.stats,
+        at.row,
+        at.col,
+        row2,
+        col2,
+        delta,
+    );
+    ScanResult {
+        stats: stats,
+        changes: scan.changes + 1,
+    }
+}
+
+// A swap scan with the offsets within reach and what they are worth: at each cell the partners in order, up to the
+// first that lowers the squared error.
+fn swap_by(
+    measures: Measures,
+    psf: &[u8],
+    gray: &[u8],
+    c: &[i32],
+    downs: &[u8],
+    rights: &[u8],
+    worths: &[i32],
+    count: usize,
+    dots: &mut [u8],
+    table: &mut [i32],
+    stats: Stats,
+) -> ScanResult
+    requires { ⌜ LaterFits measures (now psf) (now gray) (now dots) (now table) stats ⌝ }
+    requires { ⌜ HoldsKernel (measures .radius) (now psf) (now c) ⌝ }
+    requires { ⌜ HoldsOffsets (measures .reach) (now downs) (now rights) count ⌝ }
+    requires { ⌜ HoldsWorths (measures .radius) (now c) (now downs) (now rights) count (now worths) ⌝ }
+    ensures { λ r. ⌜ r ≡ swapScanned measures (now (psf .entry)) (now (gray .entry)) (now (dots .entry)) stats
+        .answer ⌝ }
+    ensures { λ _. ⌜ now (dots .exit) ≡ swapScanned measures (now (psf .entry)) (now (gray .entry))
+        (now (dots .entry)) stats .after .dots ⌝ }
+    ensures { λ _. ⌜ now (table .exit) ≡ filteredErrors (targetFor measures (now (psf .entry)) (now (gray .entry)))
+        (swapScanned measures (now (psf .entry)) (now (gray .entry)) (now (dots .entry)) stats .after .dots) ⌝ }
+{
+    let mut scan = ScanResult {
+        stats: stats,
+        changes: 0,
+    };
+    let mut at = Cell { row: 0, col: 0 };
+    while at.row < measures.height {
+        let mut k: usize = 0;
+        let found = 'partners: loop {
+            if count <= k {
+                break 'partners k;
+            }
+            if lowering(
+                measures,
+                psf,
+                gray,
+                c,
+                dots,
+                table,
+                at,
+                downs[k],
+                rights[k],
+                worths[k],
+            ) {
+                break 'partners k;
+            }
+            k += 1;
+        };
+        scan = swap_cell(
+            measures,
+            psf,
+            gray,
+            c,
+            downs,
+            rights,
+            count,
+            dots,
+            table,
+            scan,
+            at,
+            found,
+        );
+        at = next(measures.width, at);
+    }
+    scan
+}
+
+// A swap scan.
+pub fn swap_all(
+    measures: Measures,
+    psf: &[u8],
+    gray: &[u8],
+    c: &[i32],
+    dots: &mut [u8],
+    table: &mut [i32],
+    stats: Stats,
+) -> ScanResult
+    requires { ⌜ LaterFits measures (now psf) (now gray) (now dots) (now table) stats ⌝ }
+    requires { ⌜ HoldsKernel (measures .radius) (now psf) (now c) ⌝ }
+    ensures { λ r. ⌜ r ≡ swapScanned measures (now (psf .entry)) (now (gray .entry)) (now (dots .entry)) stats
+        .answer ⌝ }
+    ensures { λ _. ⌜ now (dots .exit) ≡ swapScanned measures (now (psf .entry)) (now (gray .entry))
+        (now (dots .entry)) stats .after .dots ⌝ }
+    ensures { λ _. ⌜ now (table .exit) ≡ filteredErrors (targetFor measures (now (psf .entry)) (now (gray .entry)))
+        (swapScanned measures (now (psf .entry)) (now (gray .entry)) (now (dots .entry)) stats .after .dots) ⌝ }
+{
+    let mut downs = [0u8; 168];
+    let mut rights = [0u8; 168];
+    let mut worths = [0i32; 168];
+    let count = within_reach(measures.reach, &mut downs, &mut rights);
+    weigh_offsets(measures.radius, c, &downs, &rights, count, &mut worths);
+    swap_by(
+        measures,
+        psf,
+        gray,
+        c,
+        &downs,
+        &rights,
+        &worths,
+        count,
+        dots,
+        table,
+        stats,
+    )
+}
+
+// A settling: toggle scans until one accepts nothing, then one swap scan; if that accepted something, again.
+pub fn come_to_rest(
+    measures: Measures,
+    psf: &[u8],
+    gray: &[u8],
+    c: &[i32],
+    dots: &mut [u8],
+    table: &mut [i32],
+    stats: Stats,
+) -> ConvergeResult
+    requires { ⌜ LaterFits measures (now psf) (now gray) (now dots) (now table) stats ⌝ }
+    requires { ⌜ HoldsKernel (measures .radius) (now psf) (now c) ⌝ }
+    ensures { λ r. ⌜ r ≡ atRest measures (now (psf .entry)) (now (gray .entry)) (now (dots .entry)) stats .answer ⌝ }
+    ensures { λ _. ⌜ now (dots .exit) ≡ atRest measures (now (psf .entry)) (now (gray .entry)) (now (dots .entry)) stats
+        .after .dots ⌝ }
+    ensures { λ _. ⌜ now (table .exit) ≡ filteredErrors (targetFor measures (now (psf .entry)) (now (gray .entry)))
+        (atRest measures (now (psf .entry)) (now (gray .entry)) (now (dots .entry)) stats .after .dots) ⌝ }
+{
+    let mut now = stats;
+    let mut scans: u64 = 0;
+    loop {
+        let toggled = toggle_all(measures, psf, gray, c, dots, table, now);
+        now = toggled.stats;
+        scans += 1;
+        if toggled.changes == 0 {
+            let swapped = swap_all(measures, psf, gray, c, dots, table, now);
+            now = swapped.stats;
+            scans += 1;
+            if swapped.changes == 0 {
+                return ConvergeResult {
+                    stats: now,
+                    scans: scans,
+                };
+            }
+        }
+    }
+}
