@@ -1,8 +1,9 @@
-// The public calls that change a plate. Each judges all that it is handed; then the table decides, and a change is made
-// only where it lowers the squared error. A refusal changes nothing.
+// The public calls that change a plate: attempts, scans and settling. Each judges all that it is handed, once; then the
+// table decides, and a change is made only where it lowers the squared error. A refusal changes nothing.
 ghost use mathlib.Core.Path.{_≡_};
-ghost use Rattle.model.specs.State.{toggleRefusal, swapRefusal};
-ghost use Rattle.model.specs.Calls.{attempted, toggleCall, swapCall};
+ghost use Rattle.model.specs.State.{laterRefusal, toggleRefusal, swapRefusal};
+ghost use Rattle.model.specs.Calls.{attempted, scanned, converged};
+ghost use Rattle.model.specs.Calls.{toggleCall, swapCall, toggleScanCall, swapScanCall, convergeCall};
 use cells::judge_cell;
 use cells::judge_cells;
 use cells::judge_like;
@@ -10,8 +11,13 @@ use cells::judge_pair;
 use judge::first;
 use judge::judge_later;
 use model::Attempt;
+use model::Converged;
 use model::Measures;
+use model::Scanned;
 use model::Stats;
+use scans::come_to_rest;
+use scans::swap_all;
+use scans::toggle_all;
 use state::judge_state;
 use sums::kernel;
 use trial::swap;
@@ -93,6 +99,34 @@ fn judge_swap(
     first(state, like)
 }
 
+// the whole list of a call that names no cell
+fn judge_scan(
+    measures: Measures,
+    psf: &[u8],
+    gray: &[u8],
+    dots: &[u8],
+    table: &[i32],
+    stats: Stats,
+) -> u32
+    ensures { λ r. ⌜ r ≡ laterRefusal measures (now (psf .entry)) (now (gray .entry))
+        (now (dots .entry)) (now (table .entry)) stats ⌝ }
+{
+    let handed = judge_later(measures, psf, gray.len(), dots, table.len());
+    if handed != 0 {
+        return handed;
+    }
+    judge_state(
+        measures.width,
+        measures.height,
+        measures.radius,
+        psf,
+        gray,
+        dots,
+        table,
+        stats,
+    )
+}
+
 // An attempt to toggle the dot of the cell at (row, col).
 pub fn try_toggle(
     measures: Measures,
@@ -168,4 +202,78 @@ pub fn try_swap(
         row2,
         col2,
     )
+}
+
+// A toggle scan: a toggle attempted at each cell, in raster order.
+pub fn toggle_scan(
+    measures: Measures,
+    psf: &[u8],
+    gray: &[u8],
+    dots: &mut [u8],
+    table: &mut [i32],
+    stats: Stats,
+) -> Scanned
+    ensures { λ r. ⌜ scanned r ≡ toggleScanCall measures (now (psf .entry)) (now (gray .entry))
+        (now (dots .entry)) (now (table .entry)) stats .reply ⌝ }
+    ensures { λ _. ⌜ now (dots .exit) ≡ toggleScanCall measures (now (psf .entry)) (now (gray .entry))
+        (now (dots .entry)) (now (table .entry)) stats .buffer .dots ⌝ }
+    ensures { λ _. ⌜ now (table .exit) ≡ toggleScanCall measures (now (psf .entry)) (now (gray .entry))
+        (now (dots .entry)) (now (table .entry)) stats .buffer .table ⌝ }
+{
+    let number = judge_scan(measures, psf, gray, dots, table, stats);
+    if number != 0 {
+        return Scanned::Refused(number);
+    }
+    let c = kernel(measures.radius, psf);
+    Scanned::Done(toggle_all(measures, psf, gray, &c, dots, table, stats))
+}
+
+// A swap scan: at each cell, in raster order, the partners within reach, farthest first, up to the first that lowers
+// the squared error.
+pub fn swap_scan(
+    measures: Measures,
+    psf: &[u8],
+    gray: &[u8],
+    dots: &mut [u8],
+    table: &mut [i32],
+    stats: Stats,
+) -> Scanned
+    ensures { λ r. ⌜ scanned r ≡ swapScanCall measures (now (psf .entry)) (now (gray .entry))
+        (now (dots .entry)) (now (table .entry)) stats .reply ⌝ }
+    ensures { λ _. ⌜ now (dots .exit) ≡ swapScanCall measures (now (psf .entry)) (now (gray .entry))
+        (now (dots .entry)) (now (table .entry)) stats .buffer .dots ⌝ }
+    ensures { λ _. ⌜ now (table .exit) ≡ swapScanCall measures (now (psf .entry)) (now (gray .entry))
+        (now (dots .entry)) (now (table .entry)) stats .buffer .table ⌝ }
+{
+    let number = judge_scan(measures, psf, gray, dots, table, stats);
+    if number != 0 {
+        return Scanned::Refused(number);
+    }
+    let c = kernel(measures.radius, psf);
+    Scanned::Done(swap_all(measures, psf, gray, &c, dots, table, stats))
+}
+
+// A settling: toggle scans until one accepts nothing, then one swap scan; if that accepted something, again from the
+// toggle scans.
+pub fn converge(
+    measures: Measures,
+    psf: &[u8],
+    gray: &[u8],
+    dots: &mut [u8],
+    table: &mut [i32],
+    stats: Stats,
+) -> Converged
+    ensures { λ r. ⌜ converged r ≡ convergeCall measures (now (psf .entry)) (now (gray .entry))
+        (now (dots .entry)) (now (table .entry)) stats .reply ⌝ }
+    ensures { λ _. ⌜ now (dots .exit) ≡ convergeCall measures (now (psf .entry)) (now (gray .entry))
+        (now (dots .entry)) (now (table .entry)) stats .buffer .dots ⌝ }
+    ensures { λ _. ⌜ now (table .exit) ≡ convergeCall measures (now (psf .entry)) (now (gray .entry))
+        (now (dots .entry)) (now (table .entry)) stats .buffer .table ⌝ }
+{
+    let number = judge_scan(measures, psf, gray, dots, table, stats);
+    if number != 0 {
+        return Converged::Refused(number);
+    }
+    let c = kernel(measures.radius, psf);
+    Converged::Done(come_to_rest(measures, psf, gray, &c, dots, table, stats))
 }
