@@ -6,8 +6,10 @@ example:
 	@mkdir -p target
 	@rt check examples >target/example.log 2>&1 || { cat target/example.log; exit 1; }
 	@rt check attempts >target/example.log 2>&1 || { cat target/example.log; exit 1; }
+	@rt check lists >target/example.log 2>&1 || { cat target/example.log; exit 1; }
 	@target/bin/examples
 	@target/bin/attempts
+	@target/bin/lists
 
 # every test there is; the last line is 'N passed, M failed'
 test:

@@ -5,7 +5,7 @@ use model::SquaredError;
 use model::Started;
 use show::print;
 use show::print_buffer;
-use show::print_bytes;
+use show::print_buffers;
 use show::print_number;
 use show::print_refused;
 use show::print_stats;
@@ -79,9 +79,5 @@ pub fn start(
         Started::Fresh(stats) => print_stats(stats),
         Started::Refused(number) => print_refused(number),
     }
-    print(b"; dots");
-    print_bytes(dots);
-    print(b"; table");
-    print_buffer(table);
-    print(b"\n");
+    print_buffers(dots, table);
 }

@@ -1,5 +1,7 @@
-// What the programs of examples print with: numbers, refusals, the bytes and numbers of a buffer, and a ledger.
+// What the programs of examples print with: numbers, refusals, the bytes and numbers of a buffer, a ledger, and the
+// answer of an attempt.
 use libc::STDOUT_FILENO;
+use model::Attempt;
 use model::Stats;
 
 pub fn print(text: &[u8]) {
@@ -39,7 +41,7 @@ pub fn print_buffer(buffer: &[i32]) {
     }
 }
 
-fn print_count(name: &[u8], count: u64) {
+pub fn print_count(name: &[u8], count: u64) {
     print(name);
     io::print_decimal(STDOUT_FILENO, count);
 }
@@ -66,4 +68,34 @@ pub fn print_stats(stats: Stats) {
     print_count(b", on ", stats.on);
     print_count(b", off ", stats.off);
     print_count(b", swaps ", stats.swaps);
+}
+
+// what dots and table hold, and the end of the line
+pub fn print_buffers(dots: &[u8], table: &[i32]) {
+    print(b"; dots");
+    print_bytes(dots);
+    print(b"; table");
+    print_buffer(table);
+    print(b"\n");
+}
+
+// the answer of an attempt; it answers the ledger in use after it
+pub fn print_attempt(answer: Attempt, stats: Stats) -> Stats {
+    match answer {
+        Attempt::Accepted(after, change) => {
+            print(b": accepted ");
+            print_number(change);
+            print_stats(after);
+            after
+        }
+        Attempt::Declined(change) => {
+            print(b": declined ");
+            print_number(change);
+            stats
+        }
+        Attempt::Refused(number) => {
+            print_refused(number);
+            stats
+        }
+    }
 }
