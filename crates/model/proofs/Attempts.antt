@@ -18,7 +18,8 @@ use Rattle.model.specs.Change.{counted}
 use Rattle.model.specs.Reference.{Move, made, toggle, swap, Reference, reference, accept}
 use Rattle.model.specs.Reference.{Tried, accepted, declined, Performed}
 use Rattle.model.specs.Reference.{ofOn, ofOff, ofSwaps, statsOf, change, lowers, attempt}
-use Rattle.model.specs.Calls.{result, statsAfter}
+use Rattle.model.specs.Calls.{result}
+use Rattle.model.specs.Lists.{tried, latest}
 use Rattle.model.proofs.Basic.{pick-cases}
 use Rattle.model.proofs.Error.{filtered-long}
 use Rattle.model.proofs.State.{below, at-least}
@@ -157,7 +158,7 @@ module _ (m : Measures) (psf gray dots : List ℕ) (table : List ℤ) (s : Stats
     abbrev Kept : Performed Tried → Type 0
     Kept done =
         LaterFits m psf gray (done .after .dots) (filteredErrors t (done .after .dots))
-        (statsAfter s (result (done .answer)))
+        (latest s (result (tried (done .answer))))
 
     pub attempt-later : Kept (attempt t (reference dots s) v)
     attempt-later =

@@ -28,9 +28,9 @@ use Rattle.model.specs.Reference.{Move, made, toggle, swap, Reference, r
 use Rattle.model.specs.Reference.{Tried, accepted, declined, change, attempt}
 use Rattle.model.specs.Scan.{Convergence, turn, convergeFrom, converge}
 use Rattle.model.specs.Screen.{startDots}
-use Rattle.model.specs.Calls.{Reply, result, statsAfter, Outcome, Buffers, withTable, startCall}
+use Rattle.model.specs.Calls.{Reply, result, Outcome, Buffers, withTable, startCall}
 use Rattle.model.specs.Calls.{laterCall, toggleCall, swapCall}
-use Rattle.model.specs.Lists.{Call, convergence, Result, rested, Held, handOn, call, run}
+use Rattle.model.specs.Lists.{Call, convergence, Result, tried, rested, Held, latest, handOn, call, run}
 use Rattle.model.specs.Lists.{begin, acceptedBy, referenceCall, referenceRun, Expected, Rest}
 use Rattle.model.specs.Examples.{Examples}
 use Rattle.model.proofs.Basic.{All}
@@ -223,13 +223,13 @@ module _ (m : Measures) (psf gray dots : List ℕ) (table : List ℤ) (s : Stats
     pub error-was-sum : s .error ≡ squaredError (targetFor m psf gray) dots
     -- so they are after it, over the dots left
     pub table-is-fresh : left .table ≡ filteredErrors (targetFor m psf gray) (left .dots)
-    pub error-is-sum : statsAfter s (result answer) .error ≡ squaredError (targetFor m psf gray) (left .dots)
+    pub error-is-sum : latest s (result (tried answer)) .error ≡ squaredError (targetFor m psf gray) (left .dots)
     -- the answer and the dots are those of the reference, which has no table
     pub answer-is-reference : answer ≡ attempt (targetFor m psf gray) (reference dots s) v .answer
     pub dots-are-reference : left .dots ≡ attempt (targetFor m psf gray) (reference dots s) v .after .dots
     pub verdict : Verdict v left answer
     -- no later call refuses what is left: neither 1 to 7 nor 20 nor 21 is drawn
-    pub is-accepted : laterRefusal m psf gray (left .dots) (left .table) (statsAfter s (result answer)) ≡ 0
+    pub is-accepted : laterRefusal m psf gray (left .dots) (left .table) (latest s (result (tried answer))) ≡ 0
 
   abbrev T : Target
   T = targetFor m psf gray

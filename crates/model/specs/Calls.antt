@@ -59,12 +59,6 @@ abbrev pub converged : Converged → Reply ConvergeResult
 converged (Converged.Done r) = result r
 converged (Converged.Refused n) = refused n
 
--- the ledger in use after an attempt: the one answered, and where it was declined or refused the one handed to it
-abbrev pub statsAfter : Stats → Reply Tried → Stats
-statsAfter s (result (accepted s′ d)) = s′
-statsAfter s (result (declined d)) = s
-statsAfter s (refused n) = s
-
 -- ---- a call: its answer, and what stands in the buffer that it is lent
 pub record Outcome (A B : Type 0) : Type 0 where
   pub reply : Reply A
@@ -109,37 +103,36 @@ startCall m psf gray dots table =
     (record { reply = result (freshStats t begun); buffer = withTable t begun })
 
 -- ---- the later calls
--- what the reference, with these dots and the figures of this ledger, does
-module _ (m : Measures) (psf gray dots : List ℕ) (s : Stats) where
+-- what the reference does, where it is not refused
+module _ (m : Measures) (psf gray : List ℕ) (p : Reference) where
   -- a toggle of the cell at (row, col)
   abbrev pub toggled : (row col : ℕ) → Performed Tried
-  toggled row col = attempt (targetFor m psf gray) (reference dots s) (toggle dots (cellAt (m .width) row col))
+  toggled row col = attempt (targetFor m psf gray) p (toggle (p .dots) (cellAt (m .width) row col))
 
   -- a swap of the cells at (row, col) and (row′, col′)
   abbrev pub swapped : (row col row′ col′ : ℕ) → Performed Tried
   swapped row col row′ col′ =
-      attempt (targetFor m psf gray) (reference dots s)
-      (swap dots (cellAt (m .width) row col) (cellAt (m .width) row′ col′))
+      attempt (targetFor m psf gray) p (swap (p .dots) (cellAt (m .width) row col) (cellAt (m .width) row′ col′))
 
   -- and what it holds once they are accepted
   abbrev pub afterToggle : (row col : ℕ) → Reference
-  afterToggle row col = accept (reference dots s) (toggle dots (cellAt (m .width) row col))
+  afterToggle row col = accept p (toggle (p .dots) (cellAt (m .width) row col))
 
   abbrev pub afterSwap : (row col row′ col′ : ℕ) → Reference
   afterSwap row col row′ col′ =
-      accept (reference dots s) (swap dots (cellAt (m .width) row col) (cellAt (m .width) row′ col′))
+      accept p (swap (p .dots) (cellAt (m .width) row col) (cellAt (m .width) row′ col′))
 
   -- a toggle scan
   abbrev pub toggleScanned : Performed ScanResult
-  toggleScanned = scan (targetFor m psf gray) toggles (reference dots s)
+  toggleScanned = scan (targetFor m psf gray) toggles p
 
   -- a swap scan
   abbrev pub swapScanned : Performed ScanResult
-  swapScanned = scan (targetFor m psf gray) (swaps (m .width) (m .height) (m .reach)) (reference dots s)
+  swapScanned = scan (targetFor m psf gray) (swaps (m .width) (m .height) (m .reach)) p
 
   -- a settling
   abbrev pub atRest : Performed ConvergeResult
-  atRest = converge (targetFor m psf gray) (m .reach) (reference dots s)
+  atRest = converge (targetFor m psf gray) (m .reach) p
 
 -- unless refused with that number, the reference's answer, and its dots with their table
 unfoldable pub laterCall : {A : Type 0} → ℕ → Target → (dots : List ℕ) (table : List ℤ) → Performed A
@@ -148,26 +141,29 @@ laterCall number t dots table done =
     unless number (record { dots = dots; table = table })
     (record { reply = result (done .answer); buffer = withTable t (done .after .dots) })
 
+-- each with the reference that has these dots and the figures of this ledger
 module _ (m : Measures) (psf gray dots : List ℕ) (table : List ℤ) (s : Stats) where
   unfoldable pub toggleCall : (row col : ℕ) → Outcome Tried Buffers
   toggleCall row col =
       laterCall (toggleRefusal m psf gray dots table s row col) (targetFor m psf gray) dots table
-      (toggled m psf gray dots s row col)
+      (toggled m psf gray (reference dots s) row col)
 
   unfoldable pub swapCall : (row col row′ col′ : ℕ) → Outcome Tried Buffers
   swapCall row col row′ col′ =
       laterCall (swapRefusal m psf gray dots table s row col row′ col′) (targetFor m psf gray) dots table
-      (swapped m psf gray dots s row col row′ col′)
+      (swapped m psf gray (reference dots s) row col row′ col′)
 
   unfoldable pub toggleScanCall : Outcome ScanResult Buffers
   toggleScanCall =
       laterCall (laterRefusal m psf gray dots table s) (targetFor m psf gray) dots table
-      (toggleScanned m psf gray dots s)
+      (toggleScanned m psf gray (reference dots s))
 
   unfoldable pub swapScanCall : Outcome ScanResult Buffers
   swapScanCall =
-      laterCall (laterRefusal m psf gray dots table s) (targetFor m psf gray) dots table (swapScanned m psf gray dots s)
+      laterCall (laterRefusal m psf gray dots table s) (targetFor m psf gray) dots table
+      (swapScanned m psf gray (reference dots s))
 
   unfoldable pub convergeCall : Outcome ConvergeResult Buffers
   convergeCall =
-      laterCall (laterRefusal m psf gray dots table s) (targetFor m psf gray) dots table (atRest m psf gray dots s)
+      laterCall (laterRefusal m psf gray dots table s) (targetFor m psf gray) dots table
+      (atRest m psf gray (reference dots s))

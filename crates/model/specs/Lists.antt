@@ -12,12 +12,12 @@ use Rattle.model.specs.declared.Stats.{Stats}
 use Rattle.model.specs.declared.ScanResult.{ScanResult}
 use Rattle.model.specs.declared.ConvergeResult.{ConvergeResult}
 use Rattle.model.specs.Psf.{peak}
-use Rattle.model.specs.Error.{Target, targetFor, cellAt, cells, squaredError}
+use Rattle.model.specs.Error.{Target, cells, squaredError}
 use Rattle.model.specs.Refusal.{Refusal, firstOf, gap}
 use Rattle.model.specs.State.{dotTotal, toggleNamed, swapNamed, swapAlike}
-use Rattle.model.specs.Reference.{toggle, swap, Reference, Performed, Tried, accepted, declined, attempt, change}
-use Rattle.model.specs.Scan.{toggles, swaps, scan, converge}
+use Rattle.model.specs.Reference.{toggle, swap, Reference, Performed, Tried, accepted, declined, change}
 use Rattle.model.specs.Calls.{Reply, result, refused, Outcome, Buffers}
+use Rattle.model.specs.Calls.{toggled, swapped, toggleScanned, swapScanned, atRest}
 use Rattle.model.specs.Calls.{toggleCall, swapCall, toggleScanCall, swapScanCall, convergeCall}
 
 -- a later call: its kind and the cells that it names
@@ -120,14 +120,11 @@ module _ (m : Measures) (psf gray : List ℕ) where
 
   -- a call that is not refused
   abbrev pub does : Reference → Call → Replied
-  does p (toggleAt row col) =
-      replied tried (attempt (targetFor m psf gray) p (toggle (p .dots) (cellAt (m .width) row col)))
-  does p (swapAt row col row′ col′) =
-      replied tried
-      (attempt (targetFor m psf gray) p (swap (p .dots) (cellAt (m .width) row col) (cellAt (m .width) row′ col′)))
-  does p toggleScan = replied swept (scan (targetFor m psf gray) toggles p)
-  does p swapScan = replied swept (scan (targetFor m psf gray) (swaps (m .width) (m .height) (m .reach)) p)
-  does p convergence = replied rested (converge (targetFor m psf gray) (m .reach) p)
+  does p (toggleAt row col) = replied tried (toggled m psf gray p row col)
+  does p (swapAt row col row′ col′) = replied tried (swapped m psf gray p row col row′ col′)
+  does p toggleScan = replied swept (toggleScanned m psf gray p)
+  does p swapScan = replied swept (swapScanned m psf gray p)
+  does p convergence = replied rested (atRest m psf gray p)
 
   abbrev pub referenceCall : Reference → Call → Replied
   referenceCall p c = unlessRefused (firstOf (referenceRefusals (p .dots) c)) p (does p c)

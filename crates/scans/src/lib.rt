@@ -9,7 +9,7 @@ ghost use Rattle.model.specs.Error.{targetFor, cellAt, filteredErrors};
 ghost use Rattle.model.specs.Window.{HoldsKernel};
 ghost use Rattle.model.specs.Refusal.{HalftoneFits};
 ghost use Rattle.model.specs.State.{LaterFits};
-ghost use Rattle.model.specs.Reference.{swap, lowers};
+ghost use Rattle.model.specs.Reference.{swap, reference, lowers};
 ghost use Rattle.model.specs.Partners.{biased, partner, worthAt, HoldsOffsets, HoldsWorths};
 ghost use Rattle.model.specs.Scan.{toggles, suits, Lowers, swapsAfter, visit, resultOf};
 ghost use Rattle.model.specs.Calls.{toggleScanned, swapScanned, atRest};
@@ -87,12 +87,13 @@ pub fn toggle_all(
 ) -> ScanResult
     requires { ⌜ LaterFits measures (now psf) (now gray) (now dots) (now table) stats ⌝ }
     requires { ⌜ HoldsKernel (measures .radius) (now psf) (now c) ⌝ }
-    ensures { λ r. ⌜ r ≡ toggleScanned measures (now (psf .entry)) (now (gray .entry)) (now (dots .entry)) stats
-        .answer ⌝ }
+    ensures { λ r. ⌜ r ≡ toggleScanned measures (now (psf .entry)) (now (gray .entry))
+        (reference (now (dots .entry)) stats) .answer ⌝ }
     ensures { λ _. ⌜ now (dots .exit) ≡ toggleScanned measures (now (psf .entry)) (now (gray .entry))
-        (now (dots .entry)) stats .after .dots ⌝ }
+        (reference (now (dots .entry)) stats) .after .dots ⌝ }
     ensures { λ _. ⌜ now (table .exit) ≡ filteredErrors (targetFor measures (now (psf .entry)) (now (gray .entry)))
-        (toggleScanned measures (now (psf .entry)) (now (gray .entry)) (now (dots .entry)) stats .after .dots) ⌝ }
+        (toggleScanned measures (now (psf .entry)) (now (gray .entry))
+        (reference (now (dots .entry)) stats) .after .dots) ⌝ }
 {
     let mut scan = ScanResult {
         stats: stats,
@@ -230,12 +231,13 @@ fn swap_by(
     requires { ⌜ HoldsKernel (measures .radius) (now psf) (now c) ⌝ }
     requires { ⌜ HoldsOffsets (measures .reach) (now downs) (now rights) count ⌝ }
     requires { ⌜ HoldsWorths (measures .radius) (now c) (now downs) (now rights) count (now worths) ⌝ }
-    ensures { λ r. ⌜ r ≡ swapScanned measures (now (psf .entry)) (now (gray .entry)) (now (dots .entry)) stats
-        .answer ⌝ }
+    ensures { λ r. ⌜ r ≡ swapScanned measures (now (psf .entry)) (now (gray .entry))
+        (reference (now (dots .entry)) stats) .answer ⌝ }
     ensures { λ _. ⌜ now (dots .exit) ≡ swapScanned measures (now (psf .entry)) (now (gray .entry))
-        (now (dots .entry)) stats .after .dots ⌝ }
+        (reference (now (dots .entry)) stats) .after .dots ⌝ }
     ensures { λ _. ⌜ now (table .exit) ≡ filteredErrors (targetFor measures (now (psf .entry)) (now (gray .entry)))
-        (swapScanned measures (now (psf .entry)) (now (gray .entry)) (now (dots .entry)) stats .after .dots) ⌝ }
+        (swapScanned measures (now (psf .entry)) (now (gray .entry))
+        (reference (now (dots .entry)) stats) .after .dots) ⌝ }
 {
     let mut scan = ScanResult {
         stats: stats,
@@ -295,12 +297,13 @@ pub fn swap_all(
 ) -> ScanResult
     requires { ⌜ LaterFits measures (now psf) (now gray) (now dots) (now table) stats ⌝ }
     requires { ⌜ HoldsKernel (measures .radius) (now psf) (now c) ⌝ }
-    ensures { λ r. ⌜ r ≡ swapScanned measures (now (psf .entry)) (now (gray .entry)) (now (dots .entry)) stats
-        .answer ⌝ }
+    ensures { λ r. ⌜ r ≡ swapScanned measures (now (psf .entry)) (now (gray .entry))
+        (reference (now (dots .entry)) stats) .answer ⌝ }
     ensures { λ _. ⌜ now (dots .exit) ≡ swapScanned measures (now (psf .entry)) (now (gray .entry))
-        (now (dots .entry)) stats .after .dots ⌝ }
+        (reference (now (dots .entry)) stats) .after .dots ⌝ }
     ensures { λ _. ⌜ now (table .exit) ≡ filteredErrors (targetFor measures (now (psf .entry)) (now (gray .entry)))
-        (swapScanned measures (now (psf .entry)) (now (gray .entry)) (now (dots .entry)) stats .after .dots) ⌝ }
+        (swapScanned measures (now (psf .entry)) (now (gray .entry))
+        (reference (now (dots .entry)) stats) .after .dots) ⌝ }
 {
     let mut downs = [0u8; 168];
     let mut rights = [0u8; 168];
@@ -334,11 +337,13 @@ pub fn come_to_rest(
 ) -> ConvergeResult
     requires { ⌜ LaterFits measures (now psf) (now gray) (now dots) (now table) stats ⌝ }
     requires { ⌜ HoldsKernel (measures .radius) (now psf) (now c) ⌝ }
-    ensures { λ r. ⌜ r ≡ atRest measures (now (psf .entry)) (now (gray .entry)) (now (dots .entry)) stats .answer ⌝ }
-    ensures { λ _. ⌜ now (dots .exit) ≡ atRest measures (now (psf .entry)) (now (gray .entry)) (now (dots .entry)) stats
-        .after .dots ⌝ }
+    ensures { λ r. ⌜ r ≡ atRest measures (now (psf .entry)) (now (gray .entry))
+        (reference (now (dots .entry)) stats) .answer ⌝ }
+    ensures { λ _. ⌜ now (dots .exit) ≡ atRest measures (now (psf .entry)) (now (gray .entry))
+        (reference (now (dots .entry)) stats) .after .dots ⌝ }
     ensures { λ _. ⌜ now (table .exit) ≡ filteredErrors (targetFor measures (now (psf .entry)) (now (gray .entry)))
-        (atRest measures (now (psf .entry)) (now (gray .entry)) (now (dots .entry)) stats .after .dots) ⌝ }
+        (atRest measures (now (psf .entry)) (now (gray .entry))
+        (reference (now (dots .entry)) stats) .after .dots) ⌝ }
 {
     let mut now = stats;
     let mut scans: u64 = 0;

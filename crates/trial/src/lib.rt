@@ -8,7 +8,7 @@ ghost use Rattle.model.specs.Window.{HoldsKernel};
 ghost use Rattle.model.specs.Error.{targetFor, cellAt, filteredErrors};
 ghost use Rattle.model.specs.Refusal.{HalftoneFits};
 ghost use Rattle.model.specs.State.{LaterFits};
-ghost use Rattle.model.specs.Reference.{change, statsOf};
+ghost use Rattle.model.specs.Reference.{reference, change, statsOf};
 ghost use Rattle.model.specs.Reference as Reference;
 ghost use Rattle.model.specs.Calls.{result, attempted, toggled, swapped, afterToggle, afterSwap};
 use change::between;
@@ -96,11 +96,14 @@ pub fn make_toggle(
         (Reference.toggle (now dots) (cellAt (measures .width) row col)) ⌝ }
     requires { ⌜ natAbs delta ≤ 2 ^ 50 ⌝ }
     ensures { λ r. ⌜ r ≡ statsOf (targetFor measures (now (psf .entry)) (now (gray .entry)))
-        (afterToggle measures (now (psf .entry)) (now (gray .entry)) (now (dots .entry)) stats row col) ⌝ }
+        (afterToggle measures (now (psf .entry)) (now (gray .entry))
+        (reference (now (dots .entry)) stats) row col) ⌝ }
     ensures { λ _. ⌜ now (dots .exit)
-        ≡ afterToggle measures (now (psf .entry)) (now (gray .entry)) (now (dots .entry)) stats row col .dots ⌝ }
+        ≡ afterToggle measures (now (psf .entry)) (now (gray .entry))
+        (reference (now (dots .entry)) stats) row col .dots ⌝ }
     ensures { λ _. ⌜ now (table .exit) ≡ filteredErrors (targetFor measures (now (psf .entry)) (now (gray .entry)))
-        (afterToggle measures (now (psf .entry)) (now (gray .entry)) (now (dots .entry)) stats row col .dots) ⌝ }
+        (afterToggle measures (now (psf .entry)) (now (gray .entry))
+        (reference (now (dots .entry)) stats) row col .dots) ⌝ }
 {
     let m = row * measures.width + col;
     let counted = count_toggle(stats, delta, dots[m]);
@@ -142,12 +145,13 @@ pub fn make_swap(
         (Reference.swap (now dots) (cellAt (measures .width) row col) (cellAt (measures .width) row2 col2)) ⌝ }
     requires { ⌜ natAbs delta ≤ 2 ^ 50 ⌝ }
     ensures { λ r. ⌜ r ≡ statsOf (targetFor measures (now (psf .entry)) (now (gray .entry)))
-        (afterSwap measures (now (psf .entry)) (now (gray .entry)) (now (dots .entry)) stats row col row2 col2) ⌝ }
+        (afterSwap measures (now (psf .entry)) (now (gray .entry))
+        (reference (now (dots .entry)) stats) row col row2 col2) ⌝ }
     ensures { λ _. ⌜ now (dots .exit) ≡ afterSwap measures (now (psf .entry)) (now (gray .entry))
-        (now (dots .entry)) stats row col row2 col2 .dots ⌝ }
+        (reference (now (dots .entry)) stats) row col row2 col2 .dots ⌝ }
     ensures { λ _. ⌜ now (table .exit) ≡ filteredErrors (targetFor measures (now (psf .entry)) (now (gray .entry)))
         (afterSwap measures (now (psf .entry)) (now (gray .entry))
-        (now (dots .entry)) stats row col row2 col2 .dots) ⌝ }
+        (reference (now (dots .entry)) stats) row col row2 col2 .dots) ⌝ }
 {
     let width = measures.width;
     let height = measures.height;
@@ -174,12 +178,12 @@ pub fn toggle(
     requires { ⌜ HoldsKernel (measures .radius) (now psf) (now c) ⌝ }
     requires { ⌜ (row < measures .height) × (col < measures .width) ⌝ }
     ensures { λ r. ⌜ attempted r ≡ result (toggled measures (now (psf .entry)) (now (gray .entry))
-        (now (dots .entry)) stats row col .answer) ⌝ }
+        (reference (now (dots .entry)) stats) row col .answer) ⌝ }
     ensures { λ _. ⌜ now (dots .exit) ≡ toggled measures (now (psf .entry)) (now (gray .entry))
-        (now (dots .entry)) stats row col .after .dots ⌝ }
+        (reference (now (dots .entry)) stats) row col .after .dots ⌝ }
     ensures { λ _. ⌜ now (table .exit) ≡ filteredErrors (targetFor measures (now (psf .entry)) (now (gray .entry)))
         (toggled measures (now (psf .entry)) (now (gray .entry))
-        (now (dots .entry)) stats row col .after .dots) ⌝ }
+        (reference (now (dots .entry)) stats) row col .after .dots) ⌝ }
 {
     let m = row * measures.width + col;
     let delta = weigh_toggle(measures, psf, gray, c, dots, table, m);
@@ -211,12 +215,12 @@ pub fn swap(
     requires { ⌜ (getD (now dots) (cellAt (measures .width) row col) 0
         ≡ getD (now dots) (cellAt (measures .width) row2 col2) 0 → ⊥) ⌝ }
     ensures { λ r. ⌜ attempted r ≡ result (swapped measures (now (psf .entry)) (now (gray .entry))
-        (now (dots .entry)) stats row col row2 col2 .answer) ⌝ }
+        (reference (now (dots .entry)) stats) row col row2 col2 .answer) ⌝ }
     ensures { λ _. ⌜ now (dots .exit) ≡ swapped measures (now (psf .entry)) (now (gray .entry))
-        (now (dots .entry)) stats row col row2 col2 .after .dots ⌝ }
+        (reference (now (dots .entry)) stats) row col row2 col2 .after .dots ⌝ }
     ensures { λ _. ⌜ now (table .exit) ≡ filteredErrors (targetFor measures (now (psf .entry)) (now (gray .entry)))
         (swapped measures (now (psf .entry)) (now (gray .entry))
-        (now (dots .entry)) stats row col row2 col2 .after .dots) ⌝ }
+        (reference (now (dots .entry)) stats) row col row2 col2 .after .dots) ⌝ }
 {
     let delta = weigh_swap(measures, psf, gray, c, dots, table, row, col, row2, col2);
     if lowers(delta) {
