@@ -81,12 +81,12 @@ module _ (c : tie.After-next Inv-loop μ-loop) where
   abbrev here : tie.At-loop Inv-loop μ-loop
   here = inside .before .before .before
 
-  on-plate : cellAt (s here .args .measures .width) (here .loop .cell .row) (here .loop .cell .col)
+  is-a-cell : cellAt (s here .args .measures .width) (here .loop .cell .row) (here .loop .cell .col)
       < s here .args .measures .height * s here .args .measures .width
-  on-plate = cell< (inside .if1 .taken) (here .loop .inv .1)
+  is-a-cell = cell< (inside .if1 .taken) (here .loop .inv .1)
 
 loop-less : tie.Need-loop-less Inv-loop μ-loop
-loop-less c = omega (arith, c .next .ensures .0, on-plate c)
+loop-less c = omega (arith, c .next .ensures .0, is-a-cell c)
 
 loop-again : tie.Need-loop-again Inv-loop μ-loop
 loop-again c =
@@ -95,7 +95,7 @@ loop-again c =
       under-at (under-next (l .loop .inv .0) (done .ensures .0) (done .ensures .1 .0) (done .ensures .1 .1))
           (sym (c .next .ensures .0)),
       c .next .ensures .1,
-      omega (arith, c .next .ensures .0, on-plate c),
+      omega (arith, c .next .ensures .0, is-a-cell c),
     )
 
 same-length : tie.Need-same-length Inv-loop μ-loop
