@@ -8,7 +8,8 @@ use Prim.Native.Nat.{ℕ, zero, suc, _+_, _*_, _-_, _≤_, _<_}
 use native.Mathlib.Nat.{not-suc-le-zero, lt-of-lt-of-le}
 use native.Mathlib.Decide.{ℕ-discrete, decLt}
 use native.Mathlib.Omega.{arith}
-use lib.Dec.{T, ltb, leb→le, ltb→lt, lt→ltb}
+use borrow.Author.Tests.{eqb-true, eqb-false}
+use lib.Dec.{T, ltb, eqb, leb→le, ltb→lt, lt→ltb}
 use lib.IntN.{ℤ, pos, negsuc, negℤ, _+ℤ_, _-ℤ_}
 use lib.Signed.{_≤ℤ_, _<ℤ_}
 use lib.ListN.{length, getD, set, length-append, length-map, length-set}
@@ -34,6 +35,16 @@ pub pick-cases : {A : Type 0} (Q : A → Type 0) (b : Bool) {x y : A} → (b ≡
     → Q (pick b x y)
 pick-cases Q true f g = f refl
 pick-cases Q false f g = g refl
+
+-- by what is known of a number that is tested for 0
+pub zero-cases : {A : Type 0} (Q : A → Type 0) (n : ℕ) {x y : A} → (n ≡ 0 → Q x) → ((n ≡ 0 → ⊥) → Q y)
+    → Q (pick (eqb n 0) x y)
+zero-cases Q n f g = pick-cases Q (eqb n 0) (λ t. f (eqb-true n 0 t)) (λ t. g (eqb-false n 0 t))
+
+-- choices that differ in one branch at most
+pub pick-cong : {A : Type 0} (b : Bool) {x x′ : A} (y : A) → (b ≡ true → x ≡ x′) → pick b x y ≡ pick b x′ y
+pick-cong true y f = f refl
+pick-cong false y f = refl
 
 -- ---- what holds of every entry of a list
 abbrev pub All : {A : Type 0} → (A → Type 0) → List A → Type 0

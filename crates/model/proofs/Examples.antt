@@ -12,14 +12,19 @@ use Rattle.model.specs.Reference.{made, toggle, swap, accept, statsOf, c
 use Rattle.model.specs.Partners.{offsetsOf, offsetsFrom, offsets}
 use Rattle.model.specs.Scan.{toggles, swapsBy, tryEach, sweepTo, convergeIn, convergeFrom, converge}
 use Rattle.model.specs.Calls.{laterCall, startCall, toggleCall, swapCall, convergeCall}
-use Rattle.model.specs.Examples.{Examples}
+use Rattle.model.specs.Text.{digits}
+use Rattle.model.specs.Sheet.{names, psfName, grayName, dotsName, sheetText}
+use Rattle.model.specs.Format.{head, body, fieldAt, headOf, bodyEnd, readSheet}
+use Rattle.model.specs.Program.{refusedText, figuresText, processedText, output}
+use Rattle.model.specs.Examples.{workedInput, workedOutput, Examples}
 
 pub examples : Examples
 unfolding sumTo sumFrom tabulate gridAt squareAt psfAt autocorrelation kernel error filteredError filteredErrors
     squaredError total bayer thresholdAt ordered startDots above someBelow badTable wrongStats toggleRefusal swapRefusal
     made toggle swap accept statsOf change attempt laterCall toggleCall swapCall
     laterRefusal startRefusal freshStats startCall offsetsOf offsetsFrom offsets toggles swapsBy tryEach sweepTo
-    convergeIn convergeFrom converge convergeCall
+    convergeIn convergeFrom converge convergeCall digits names psfName grayName dotsName sheetText
+    head body fieldAt headOf bodyEnd readSheet refusedText figuresText processedText output workedInput workedOutput
 examples =
     record {
       black-blank = refl;
@@ -48,4 +53,5 @@ examples =
       ordered-128 = refl;
       worked-start = refl;
       worked-converges = refl;
+      worked-output = refl;
     }

@@ -20,5 +20,14 @@ pub mod Loop
 pub mod Rest
 pub mod Converge
 pub mod Lists
+pub mod Text
+pub mod Rows
+pub mod Format
+pub mod Agrees
+pub mod Parse
+pub mod Unseen
+pub mod Sheet
+pub mod Refused
+pub mod Program
 pub mod Examples
 pub mod Promises

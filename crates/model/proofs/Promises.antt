@@ -2,15 +2,18 @@
 -- calls answer and leave just this stands in their contracts (src/lib.rt of crates/filter, crates/starts and
 -- crates/search), which cite the same definitions.
 use mathlib.Core.Path.{_≡_, refl, sym, _∙_, ap, subst}
+use mathlib.Core.Bool.{Bool, true, false}
 use mathlib.Core.Logic.{_⊎_, inl, inr}
 use mathlib.Core.List.{List, [], _∷_, _++_, filter}
 use Prim.Native.Nat.{ℕ, _+_, _*_, _-_, _≤_, _<_}
 use native.Mathlib.Decide.{ℕ-discrete}
 use native.Mathlib.Omega.{arith}
-use lib.Dec.{lit≤}
+use borrow.Author.Tests.{eqb-true}
+use lib.Dec.{ltb, eqb, lit≤}
 use lib.IntN.{ℤ, pos, negℤ, natAbs, _+ℤ_, _-ℤ_, _*ℤ_}
 use lib.Signed.{_≤ℤ_, _<ℤ_}
-use lib.ListN.{length, getD}
+use lib.ListN.{length, getD, take, replicate}
+use lib.Seq.{sets}
 use Rattle.algebra.specs.Sum.{sumFrom, sumOver}
 use Rattle.algebra.specs.Quadratic.{Increment, Within, edited}
 use Rattle.model.specs.declared.Measures.{Measures}
@@ -28,10 +31,16 @@ use Rattle.model.specs.Reference.{Move, made, toggle, swap, Reference, r
 use Rattle.model.specs.Reference.{Tried, accepted, declined, change, attempt}
 use Rattle.model.specs.Scan.{Convergence, turn, convergeFrom, converge}
 use Rattle.model.specs.Screen.{startDots}
-use Rattle.model.specs.Calls.{Reply, result, Outcome, Buffers, withTable, startCall}
-use Rattle.model.specs.Calls.{laterCall, toggleCall, swapCall}
-use Rattle.model.specs.Lists.{Call, convergence, Result, tried, rested, Held, latest, handOn, call, run}
+use Rattle.model.specs.Calls.{Reply, result, refused, Outcome, Buffers, withTable, startCall}
+use Rattle.model.specs.Calls.{laterCall, toggleCall, swapCall, convergeCall}
+use Rattle.model.specs.Lists.{Call, convergence, Result, tried, rested, Held, latest, answering}
+use Rattle.model.specs.Lists.{handOn, call, run}
 use Rattle.model.specs.Lists.{begin, acceptedBy, referenceCall, referenceRun, Expected, Rest}
+use Rattle.model.specs.Sheet.{Sheet, cellsOf, sheetText, Valid, Begins, Stops}
+use Rattle.model.specs.Format.{headOf, fits as roomFor, Read, readSheet}
+use Rattle.model.specs.SheetCalls.{result as written, withGiven, writtenSheet, readCall, writeCall}
+use Rattle.model.specs.Program.{refusedText, statsText, convergedText, startedText, processedText}
+use Rattle.model.specs.Program.{handedDots, output}
 use Rattle.model.specs.Examples.{Examples}
 use Rattle.model.proofs.Basic.{All}
 use Rattle.model.proofs.Psf.{autocorrelation-even, autocorrelation-supported}
@@ -52,6 +61,8 @@ use Rattle.model.proofs.Scan.{Halftone, start-kept, sound-halftone}
 use Rattle.model.proofs.Converge.{converge-rule, converge-only}
 use Rattle.model.proofs.Converge.{converge-scans, converge-counts, converge-rest}
 use Rattle.model.proofs.Lists.{heldOf, call-same, call-later, Alike, run-same, run-expected}
+use Rattle.model.proofs.Sheet.{read-exactly, read-back, same-text, written-whole, written-back}
+use Rattle.model.proofs.Refused.{read-draws, twelve-lacks, read-begins, ten-stops}
 use Rattle.model.proofs.Examples.{examples}
 
 -- ---- the autocorrelation, of any psf
@@ -347,6 +358,10 @@ module _ (m : Measures) (psf gray : List ℕ) where
       -- table and E now are as worked out afresh
       pub table-is-fresh : left .table ≡ filteredErrors (targetFor m psf gray) (left .dots)
       pub error-is-fresh : left .stats .error ≡ squaredError (targetFor m psf gray) (left .dots)
+      -- a dot byte for each cell, 0 or 1
+      pub dots-are-bits : (length (left .dots) ≡ m .height * m .width) × AtMost 1 (left .dots)
+      -- E at the start stays that of the first dots
+      pub start-is-kept : left .stats .«start_error» ≡ squaredError (targetFor m psf gray) first
       -- dots, ledger and every answer are those of the plain plate, which has no table
       pub dots-are-reference : left .dots ≡ reached .dots
       pub stats-are-reference : left .stats ≡ statsOf (targetFor m psf gray) reached
@@ -410,6 +425,10 @@ module _ (m : Measures) (psf gray : List ℕ) where
         record {
           table-is-fresh = subst (λ h. h .table ≡ filteredErrors t (h .dots)) back refl;
           error-is-fresh = subst (λ h. h .stats .error ≡ squaredError t (h .dots)) back refl;
+          dots-are-bits =
+              subst (λ h. (length (h .dots) ≡ m .height * m .width) × AtMost 1 (h .dots)) back
+              (r .sound .halftone .dots-length, r .sound .halftone .bits);
+          start-is-kept = subst (λ h. h .stats .«start_error» ≡ squaredError t first) back (r .kept .0);
           dots-are-reference = ap (λ h. h .dots) (r .held);
           stats-are-reference = ap (λ h. h .stats) (r .held);
           answers-are-reference = r .answers;
@@ -451,6 +470,166 @@ module _ (m : Measures) (psf gray : List ℕ) where
       fits-later m psf gray _ _ _
       (call-later m psf gray h c (later-enters m psf gray (h .dots) (h .table) (h .stats) e))
 
--- ---- the starred examples of document 01
+-- ---- the sheet
+-- bytes, and the lengths of the buffers for psf, gray and dots
+module _ (b : List ℕ) (p g d : ℕ) where
+  -- a sheet is read exactly when the bytes are its text, each number is in its field, and it fits the buffers
+  pub read-sheet-is-text : (s : Sheet) → (readSheet b p g d .refusal ≡ 0) × (readSheet b p g d .sheet ≡ s)
+      → (b ≡ sheetText s) × Valid s × (roomFor (s .measures) p g d ≡ true)
+  read-sheet-is-text = read-exactly b p g d
+
+  pub text-is-read : (s : Sheet) → (b ≡ sheetText s) × Valid s × (roomFor (s .measures) p g d ≡ true)
+      → (readSheet b p g d .refusal ≡ 0) × (readSheet b p g d .sheet ≡ s)
+  text-is-read s (e, v, f) = read-back b p g d s e v f
+
+  -- the reader's refusal is 0, 10, 11 or 12 and nothing else
+  pub reader-draws : let n = readSheet b p g d .refusal in (n ≡ 0) ⊎ (n ≡ 10) ⊎ (n ≡ 11) ⊎ (n ≡ 12)
+  reader-draws = read-draws b p g d
+
+  -- 12: lines 1 and 2 were read, it stands at their end, and the buffers are too short
+  pub refusal-12-lacks-room : readSheet b p g d .refusal ≡ 12
+      → (headOf b .refusal ≡ 0)
+      × (readSheet b p g d .at ≡ headOf b .at)
+      × (roomFor (headOf b .measures) p g d ≡ false)
+  refusal-12-lacks-room = twelve-lacks b p g d
+
+  -- the bytes before the place that the reader answers begin some sheet
+  pub what-was-read-begins-a-sheet : Begins (take (readSheet b p g d .at) b)
+  what-was-read-begins-a-sheet = read-begins b p g d
+
+  -- 10: with the byte at its place they begin none, or the end comes too early
+  pub refusal-10-stops : readSheet b p g d .refusal ≡ 10 → Stops b (readSheet b p g d .at)
+  refusal-10-stops = ten-stops b p g d
+
+-- no two sheets have the same text
+pub one-text-one-sheet : (s s′ : Sheet) → Valid s → Valid s′ → sheetText s ≡ sheetText s′ → s ≡ s′
+one-text-one-sheet = same-text
+
+-- a sheet that was written into an output
+module _ (m : Measures) (psf gray dots out : List ℕ) (k : ℕ) (done : writeCall m psf gray dots out .reply ≡ written k)
+    (psf-bytes : AtMost 255 psf) (gray-bytes : AtMost 255 gray) where
+  -- is the text of what was handed in, with start 2, each number in its field
+  pub written-sheet-is-text : let s = writtenSheet m psf gray dots in
+      (k ≡ length (sheetText s)) × (take k (writeCall m psf gray dots out .out) ≡ sheetText s) × Valid s
+  written-sheet-is-text = written-whole m psf gray dots out k done psf-bytes gray-bytes
+
+  -- and reads back as just that, into any buffers that it fits
+  pub written-sheet-reads-back : (p g d : List ℕ) → roomFor (withGiven m) (length p) (length g) (length d) ≡ true
+      → let r = readCall (take k (writeCall m psf gray dots out .out)) p g d in
+      (r .reply ≡ written (withGiven m))
+      × (r .psf ≡ sets p 0 psf)
+      × (r .gray ≡ sets g 0 gray)
+      × (r .dots ≡ sets d 0 dots)
+  written-sheet-reads-back = written-back m psf gray dots out k done psf-bytes gray-bytes
+
+-- ---- the program
+-- what is printed of a sheet: it, with the dots of its settling, and the figures that belong to them
+module _ (input : List ℕ) (s : Sheet) where
+  abbrev held-against : Target
+  held-against = targetFor (s .measures) (s .psf) (s .gray)
+
+  pub record Printed (dots : List ℕ) (done : ConvergeResult) : Type 0 where
+    pub is-read : (input ≡ sheetText s) × Valid s
+    pub is-printed : output input
+        ≡ sheetText (writtenSheet (s .measures) (s .psf) (s .gray) dots) ++ statsText done
+    -- a sheet that can be handed in again
+    pub is-a-sheet : Valid (writtenSheet (s .measures) (s .psf) (s .gray) dots)
+    -- before: the squared error of the dots of the start
+    pub before-is-of-start : done .stats .«start_error»
+        ≡ squaredError held-against (startDots (s .measures) (s .gray) (handedDots s))
+    -- after: the squared error of the dots printed
+    pub after-is-of-dots : done .stats .error ≡ squaredError held-against dots
+    -- which are at rest
+    pub is-at-rest : Rest held-against (s .measures .reach) dots (filteredErrors held-against dots)
+
+-- what a settling answers, in a list and by itself
+rested-is : (r : Reply ConvergeResult) (a : ConvergeResult) → answering rested r ≡ result (rested a) → r ≡ result a
+rested-is (result b) a e = let q : b ≡ a = cc in ap result q
+rested-is (refused n) a e = absurd (let z : _≡_ {A = ℕ} 0 1 = cc in omega arith)
+
+-- a valid sheet with other dots, and start 2
+again : (s : Sheet) (dots : List ℕ) → Valid s → (length dots ≡ cellsOf (s .measures)) × AtMost 1 dots
+    → Valid (writtenSheet (s .measures) (s .psf) (s .gray) dots)
+again s dots v (long, bits) =
+    let r = v .in-range in
+    record {
+      in-range = record { wide = r .wide; high = r .high; near = r .near; reached = r .reached; kind = lit≤ tt };
+      shaped = record { psf-length = v .shaped .psf-length; gray-length = v .shaped .gray-length; dots-length = long };
+      psf-most = v .psf-most;
+      gray-most = v .gray-most;
+      dots-most = bits;
+    }
+
+module _ (input : List ℕ) where
+  abbrev Answer : Type 0
+  Answer =
+      ((s : Sheet) × (dots : List ℕ) × (done : ConvergeResult) × Printed input s dots done)
+      ⊎ ((n : ℕ) × (o : ℕ) × (output input ≡ refusedText n o))
+
+  -- a sheet that was started
+  module _ (s : Sheet) (given : (input ≡ sheetText s) × Valid s) where
+    abbrev handed : List ℤ
+    handed = replicate (cellsOf (s .measures)) (pos 0)
+
+    abbrev opening : Outcome Stats Buffers
+    opening = startCall (s .measures) (s .psf) (s .gray) (handedDots s) handed
+
+    started-prints : (stats : Stats) → opening .reply ≡ result stats
+        → output input ≡ startedText (s .measures) (s .psf) (s .gray) (result stats) (opening .buffer) → Answer
+    unfolding run
+    started-prints stats q e =
+        let d = demand-3 (s .measures) (s .psf) (s .gray) (handedDots s) handed stats (given .1 .gray-most) q
+        (convergence ∷ []) in
+        let c = d .convergences-end-at-rest [] [] refl in
+        let b = opening .buffer in
+        let o = convergeCall (s .measures) (s .psf) (s .gray) (b .dots) (b .table) stats in
+        let k = rested-is (o .reply) (c .answer) (c .is-answered) in
+        let latest-is : latest stats (answering rested (o .reply)) ≡ c .answer .stats =
+        ap (λ r. latest stats (answering rested r)) k in
+        inl (
+          s,
+          o .buffer .dots,
+          c .answer,
+          record {
+            is-read = given;
+            is-printed =
+                e ∙ ap (λ r. convergedText (s .measures) (s .psf) (s .gray) r (o .buffer .dots)) k;
+            is-a-sheet = again s (o .buffer .dots) (given .1) (d .dots-are-bits);
+            before-is-of-start = sym (ap (λ l. l .«start_error») latest-is) ∙ d .start-is-kept;
+            after-is-of-dots = sym (ap (λ l. l .error) latest-is) ∙ d .error-is-fresh;
+            is-at-rest =
+                subst (Rest (held-against input s) (s .measures .reach) (o .buffer .dots)) (d .table-is-fresh)
+                (c .is-at-rest);
+          },
+        )
+
+    sheet-prints : output input
+        ≡ processedText (s .measures) (s .psf) (s .gray) (handedDots s) handed → Answer
+    unfolding processedText
+    sheet-prints e = go (opening .reply) refl
+      where
+        go : (r : Reply Stats) → opening .reply ≡ r → Answer
+        go (result stats) q = started-prints stats q (e ∙ rw q)
+        go (refused n) q = inr (n, 0, e ∙ rw q)
+
+  -- for every input it prints a sheet so, or a refusal
+  pub program-prints : Answer
+  unfolding output
+  program-prints = go (ltb 32768 (length input)) refl
+    where
+      r : Read
+      r = readSheet input 49 4096 4096
+
+      short : ltb 32768 (length input) ≡ false → (b : Bool) → eqb (r .refusal) 0 ≡ b → Answer
+      short t true u =
+          let (e, v, _) = read-exactly input 49 4096 4096 (r .sheet) (eqb-true (r .refusal) 0 u, refl) in
+          sheet-prints (r .sheet) (e, v) (rw (t, u))
+      short t false u = inr (r .refusal, r .at, rw (t, u))
+
+      go : (b : Bool) → ltb 32768 (length input) ≡ b → Answer
+      go true t = inr (13, 0, rw t)
+      go false t = short t (eqb (r .refusal) 0) refl
+
+-- ---- the starred examples of document 01, and its worked example as the program prints it
 pub examples-hold : Examples
 examples-hold = examples

@@ -122,7 +122,7 @@ Alike n [] = Unit {0}
 Alike n (m ∷ l) = (m ≡ n) × Alike n l
 
 -- the first length is k, the others are n
-alike : (k n m : ℕ) (l : List ℕ) → not (eqb m k) || differs n l ≡ false → (m ≡ k) × Alike n l
+pub alike : (k n m : ℕ) (l : List ℕ) → not (eqb m k) || differs n l ≡ false → (m ≡ k) × Alike n l
 alike k n m [] h = (same m k (neither (not (eqb m k)) false h .0), tt)
 alike k n m (o ∷ l) h =
     let (first, others) = neither (not (eqb m k)) (differs n (o ∷ l)) h in

@@ -1,7 +1,7 @@
 -- The starred examples of document 01, as one table: a field for each figure. `examples` of proofs/Examples.antt fills
 -- it by computing the sums.
 use mathlib.Core.Path.{_≡_}
-use mathlib.Core.List.{List, [], _∷_}
+use mathlib.Core.List.{List, [], _∷_, _++_}
 use Prim.Native.Nat.{ℕ}
 use lib.IntN.{ℤ, pos, negsuc}
 use Rattle.model.specs.declared.Measures.{Measures}
@@ -11,6 +11,8 @@ use Rattle.model.specs.Error.{Target, targetOf, filteredErrors, squaredE
 use Rattle.model.specs.Screen.{thresholdAt, startDots}
 use Rattle.model.specs.Reference.{Tried, accepted, declined}
 use Rattle.model.specs.Calls.{result, Outcome, Buffers, startCall, toggleCall, swapCall, convergeCall}
+use Rattle.model.specs.Text.{bytes}
+use Rattle.model.specs.Program.{output}
 
 -- 1 by 1, r 0, p 1
 abbrev pub single : ℕ → Target
@@ -52,6 +54,19 @@ outcome answer dots table = record { reply = result answer; buffer = record { do
 abbrev pub toggleSingle : (gray : ℕ) (table error : ℤ) → Outcome Tried Buffers
 toggleSingle gray table error =
     toggleCall singleMeasures (1 ∷ []) (gray ∷ []) (0 ∷ []) (table ∷ []) (stats error error 0 0 0 0) 0 0
+
+-- the worked sheet, and what the program prints of it
+unfoldable pub workedInput : List ℕ
+workedInput =
+    bytes "width height radius reach start\n2 1 1 1 0\n" ++
+    (bytes "psf\n0 0 0\n1 2 1\n0 0 0\n" ++ bytes "gray\n100 100\n")
+
+unfoldable pub workedOutput : List ℕ
+workedOutput =
+    bytes "width height radius reach start\n2 1 1 1 2\n" ++
+    (bytes "psf\n0 0 0\n1 2 1\n0 0 0\n" ++
+    (bytes "gray\n100 100\n" ++
+    (bytes "dots\n1 0\n" ++ bytes "before after on off swaps scans\n200000 80150 1 0 0 3\n")))
 
 pub record Examples : Type 0 where
   -- 1 by 1, r 0, p 1, gray 255, blank: E 65025
@@ -113,3 +128,5 @@ pub record Examples : Type 0 where
       (stats (pos 200000) (pos 200000) 0 0 0 0)
       ≡ outcome (record { stats = stats (pos 200000) (pos 80150) 0 1 0 0; scans = 3 })
       (1 ∷ 0 ∷ []) (pos 530 ∷ pos 20 ∷ [])
+  -- the same as texts: what the program prints of that sheet
+  pub worked-output : output workedInput ≡ workedOutput

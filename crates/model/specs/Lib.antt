@@ -12,4 +12,9 @@ pub mod Partners
 pub mod Scan
 pub mod Calls
 pub mod Lists
+pub mod Text
+pub mod Sheet
+pub mod Format
+pub mod SheetCalls
+pub mod Program
 pub mod Examples

@@ -128,6 +128,18 @@ unfoldable pub startRefusal : Measures → List ℕ → List ℕ → List ℕ �
 startRefusal m psf gray dots table =
     firstOf (handed m psf (length gray ∷ length dots ∷ table ∷ []) ++ (badGiven (m .start) dots ∷ []))
 
+-- the writer of a sheet: 1 to 5 and 7
+unfoldable pub writeRefusal : Measures → List ℕ → List ℕ → List ℕ → ℕ
+writeRefusal m psf gray dots =
+    firstOf
+    (badSize (m .width) (m .height)
+    ∷ badRadius (m .radius)
+    ∷ badReach (m .reach)
+    ∷ badKind (m .start)
+    ∷ badLength (m .radius) psf (m .height * m .width) (length gray ∷ length dots ∷ [])
+    ∷ badDot dots
+    ∷ [])
+
 -- ---- what a call was handed that nothing refused
 pub record PsfFits (r : ℕ) (psf : List ℕ) : Type 0 where
   pub near : r ≤ 3

@@ -69,3 +69,58 @@ pub enum Converged {
     Done(ConvergeResult),
     Refused(u32),
 }
+
+// What a reader finds next in a text: a word, a number (257 stands for all above 256), a line end, or none of these.
+pub enum Item {
+    Word,
+    Number(usize),
+    LineEnd,
+    Other,
+}
+
+// A step of the reader: the item, its byte offset, and where it ends. Where there is no item, both are the offset of
+// the byte that cannot be there.
+pub struct Step {
+    pub item: Item,
+    pub at: usize,
+    pub next: usize,
+}
+
+// A run of digits: its value, and where it ends.
+pub struct Run {
+    pub value: usize,
+    pub end: usize,
+}
+
+// How far a sheet is read: refusal 0 and the place after it, or the number of a refusal and its byte offset.
+pub struct Place {
+    pub refusal: u32,
+    pub at: usize,
+}
+
+// The same of one number and the byte that ends it; its value is 0 where it is refused.
+pub struct Field {
+    pub refusal: u32,
+    pub at: usize,
+    pub value: usize,
+}
+
+// The same of lines 1 and 2 of a sheet, with the measures.
+pub struct Head {
+    pub refusal: u32,
+    pub at: usize,
+    pub measures: Measures,
+}
+
+// The answer of reading a sheet: its measures, or refused with the number of document 01 and the byte offset.
+pub enum Reading {
+    Done(Measures),
+    Refused(u32, usize),
+}
+
+// The answer of writing a sheet: its length, or refused with the number of document 01 and the byte offset, which is 0
+// where there is no place.
+pub enum Writing {
+    Done(usize),
+    Refused(u32, usize),
+}

@@ -1,0 +1,167 @@
+-- Laws of a format: which values its parts ask for, and how their text and their reading go on to the parts after them.
+use mathlib.Core.Path.{_≡_, refl, _∙_, ap, sym}
+use mathlib.Core.Bool.{false}
+use mathlib.Core.List.{List, [], _∷_, _++_, append-assoc}
+use Prim.Native.Nat.{ℕ, zero, suc, _+_, _%_, _≤_}
+use native.Mathlib.Omega.{arith}
+use borrow.Author.Tests.{eq-eqb, ne-eqb}
+use lib.Dec.{eqb}
+use lib.ListN.{length}
+use Rattle.model.specs.declared.Field.{Field}
+use Rattle.model.specs.declared.Measures.{Measures}
+use Rattle.model.specs.declared.Place.{Place}
+use Rattle.model.specs.Text.{isDigit, digits}
+use Rattle.model.specs.Sheet.{sideOf, entriesOf, cellsOf}
+use Rattle.model.specs.Format.{Part, fixed, number, endOf, grid, head, psfBlock, grayBlock, dotsBlock, body}
+use Rattle.model.specs.Format.{textOf, fixedAt, fieldAt, Parsed, parsed, onFixed, onField, parse, placeOf}
+use Rattle.model.specs.Format.{parseNext}
+use Rattle.model.proofs.Basic.{pick-cases, zero-cases, pick-cong}
+
+-- ---- which values there are
+-- how many numbers there are among the parts
+abbrev pub numbers : List Part → ℕ
+numbers [] = 0
+numbers (fixed bs ∷ ps) = numbers ps
+numbers (number lo hi end ∷ ps) = suc (numbers ps)
+
+-- as many values as numbers, each in its field
+abbrev pub Inside : List Part → List ℕ → Type 0
+Inside [] [] = Unit
+Inside [] (v ∷ vs) = ⊥
+Inside (fixed bs ∷ ps) vs = Inside ps vs
+Inside (number lo hi end ∷ ps) [] = ⊥
+Inside (number lo hi end ∷ ps) (v ∷ vs) = (lo ≤ v) × (v ≤ hi) × Inside ps vs
+
+pub inside-length : (ps : List Part) (vs : List ℕ) → Inside ps vs → length vs ≡ numbers ps
+inside-length [] [] i = refl
+inside-length [] (v ∷ vs) i = absurd i
+inside-length (fixed bs ∷ ps) vs i = inside-length ps vs i
+inside-length (number lo hi end ∷ ps) [] i = absurd i
+inside-length (number lo hi end ∷ ps) (v ∷ vs) i = ap suc (inside-length ps vs (i .2))
+
+-- every field ends at 256 at the latest, and no number is ended by a digit
+abbrev pub Good : List Part → Type 0
+Good [] = Unit
+Good (fixed bs ∷ ps) = Good ps
+Good (number lo hi end ∷ ps) = (hi ≤ 256) × (isDigit end ≡ false) × Good ps
+
+end-no-digit : (w i : ℕ) → isDigit (endOf w i) ≡ false
+end-no-digit w i = pick-cases (λ b. isDigit b ≡ false) (eqb ((i + 1) % w) 0) (λ t. refl) (λ t. refl)
+
+good-append : (a b : List Part) → Good a → Good b → Good (a ++ b)
+good-append [] b g h = h
+good-append (fixed bs ∷ a) b g h = good-append a b g h
+good-append (number lo hi end ∷ a) b g h = (g .0, g .1, good-append a b (g .2) h)
+
+good-grid : (w hi i n : ℕ) → hi ≤ 256 → Good (grid w hi i n)
+good-grid w hi i zero h = tt
+good-grid w hi i (suc n) h = (h, end-no-digit w i, good-grid w hi (i + 1) n h)
+
+pub good-head : Good head
+unfolding head
+good-head =
+    (omega arith, refl, (omega arith, refl, (omega arith, refl, (omega arith, refl, (omega arith, refl, tt)))))
+
+pub good-body : (m : Measures) → Good (body m)
+unfolding body
+good-body m =
+    let gray = good-grid (m .width) 255 0 (cellsOf m) (omega arith) in
+    good-append (psfBlock m) (grayBlock m ++ dotsBlock m) (good-grid (sideOf m) 255 0 (entriesOf m) (omega arith))
+    (good-append (grayBlock m) (dotsBlock m) gray dots)
+  where
+    dots : Good (dotsBlock m)
+    dots = pick-cases Good (eqb (m .start) 2) (λ t. good-grid (m .width) 1 0 (cellsOf m) (omega arith)) (λ t. tt)
+
+-- ---- the text of parts and of parts after them
+pub text-append : (a b : List Part) (vs us : List ℕ) → length vs ≡ numbers a
+    → textOf (a ++ b) (vs ++ us) ≡ textOf a vs ++ textOf b us
+text-append [] b [] us e = refl
+text-append [] b (v ∷ vs) us e = absurd (omega arith)
+text-append (fixed bs ∷ a) b vs us e =
+    ap (λ (l : List ℕ). bs ++ l) (text-append a b vs us e) ∙ sym (append-assoc bs (textOf a vs) (textOf b us))
+text-append (number lo hi end ∷ a) b [] us e = absurd (omega arith)
+text-append (number lo hi end ∷ a) b (v ∷ vs) us e =
+    ap (λ (l : List ℕ). digits v ++ (end ∷ l)) (text-append a b vs us (omega arith))
+    ∙ sym (append-assoc (digits v) (end ∷ textOf a vs) (textOf b us))
+
+-- ---- one part that was read
+-- fixed bytes, and what is after them
+module _ (p : Place) (rest : ℕ → Parsed) where
+  pub fixed-good : onFixed p rest .refusal ≡ 0 → p .refusal ≡ 0
+  fixed-good = zero-cases (λ (r : Parsed). r .refusal ≡ 0 → p .refusal ≡ 0) (p .refusal) (λ y z. y) (λ y z. z)
+
+  pub fixed-on : p .refusal ≡ 0 → onFixed p rest ≡ rest (p .at)
+  fixed-on z = rw (eq-eqb (p .refusal) 0 z)
+
+-- a number, and what is after it
+module _ (f : Field) (rest : ℕ → Parsed) where
+  pub field-good : onField f rest .refusal ≡ 0 → f .refusal ≡ 0
+  field-good = zero-cases (λ (r : Parsed). r .refusal ≡ 0 → f .refusal ≡ 0) (f .refusal) (λ y z. y) (λ y z. z)
+
+  pub field-on : f .refusal ≡ 0
+      → let r = rest (f .at) in onField f rest ≡ parsed (r .refusal) (r .at) (f .value ∷ r .values)
+  field-on z = rw (eq-eqb (f .refusal) 0 z)
+
+  pub field-off : (f .refusal ≡ 0 → ⊥) → onField f rest ≡ parsed (f .refusal) (f .at) []
+  field-off z = rw (ne-eqb (f .refusal) 0 z)
+
+-- ---- parts after parts
+-- that were read
+pub parse-append : (a b : List Part) (s : List ℕ) (at : ℕ) → parse a s at .refusal ≡ 0
+    → let r = parse b s (parse a s at .at) in
+    parse (a ++ b) s at ≡ parsed (r .refusal) (r .at) (parse a s at .values ++ r .values)
+parse-append [] b s at z = refl
+parse-append (fixed bs ∷ a) b s at z =
+    let p = fixedAt bs s at in
+    let y = fixed-good p (parse a s) z in
+    let e = fixed-on p (parse a s) y in
+    fixed-on p (parse (a ++ b) s) y ∙ rw e (parse-append a b s (p .at) (rw e at z))
+parse-append (number lo hi end ∷ a) b s at z =
+    let f = fieldAt lo hi end s at in
+    let y = field-good f (parse a s) z in
+    let e = field-on f (parse a s) y in
+    let q = parse-append a b s (f .at) (rw e at z) in
+    field-on f (parse (a ++ b) s) y ∙ rw e (ap (λ (r : Parsed). parsed (r .refusal) (r .at) (f .value ∷ r .values)) q)
+
+-- that were refused
+pub parse-refused : (a b : List Part) (s : List ℕ) (at : ℕ) → (parse a s at .refusal ≡ 0 → ⊥)
+    → parse (a ++ b) s at ≡ parse a s at
+parse-refused [] b s at z = absurd (z refl)
+parse-refused (fixed bs ∷ a) b s at z =
+    let p = fixedAt bs s at in
+    pick-cong (eqb (p .refusal) 0) _ (λ t. parse-refused a b s (p .at) (λ y. z (rw t y)))
+parse-refused (number lo hi end ∷ a) b s at z =
+    let f = fieldAt lo hi end s at in
+    pick-cong (eqb (f .refusal) 0) _ (λ t.
+    ap (λ (r : Parsed). parsed (r .refusal) (r .at) (f .value ∷ r .values))
+    (parse-refused a b s (f .at) (λ y. z (rw t y))))
+
+-- the place after both
+pub parse-next : (a b : List Part) (s : List ℕ) (at : ℕ)
+    → placeOf (parse (a ++ b) s at) ≡ parseNext b s (placeOf (parse a s at))
+unfolding parseNext
+parse-next a b s at =
+    zero-cases (λ (p : Place). placeOf (parse (a ++ b) s at) ≡ p) (parse a s at .refusal)
+    (λ z. ap placeOf (parse-append a b s at z)) (λ z. ap placeOf (parse-refused a b s at z))
+
+-- as many values as numbers
+pub values-length : (ps : List Part) (s : List ℕ) (at : ℕ) → parse ps s at .refusal ≡ 0
+    → length (parse ps s at .values) ≡ numbers ps
+values-length [] s at z = refl
+values-length (fixed bs ∷ ps) s at z =
+    let p = fixedAt bs s at in
+    let e = fixed-on p (parse ps s) (fixed-good p (parse ps s) z) in
+    rw e (values-length ps s (p .at) (rw e at z))
+values-length (number lo hi end ∷ ps) s at z =
+    let f = fieldAt lo hi end s at in
+    let e = field-on f (parse ps s) (field-good f (parse ps s) z) in
+    rw e (ap suc (values-length ps s (f .at) (rw e at z)))
+
+pub numbers-grid : (w hi i n : ℕ) → numbers (grid w hi i n) ≡ n
+numbers-grid w hi i zero = refl
+numbers-grid w hi i (suc n) = ap suc (numbers-grid w hi (i + 1) n)
+
+pub numbers-append : (a b : List Part) → numbers (a ++ b) ≡ numbers a + numbers b
+numbers-append [] b = omega arith
+numbers-append (fixed bs ∷ a) b = numbers-append a b
+numbers-append (number lo hi end ∷ a) b = omega (arith, numbers-append a b)

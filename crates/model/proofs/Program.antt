@@ -1,0 +1,230 @@
+-- Laws of what the program prints: how long a sheet is at most, and what its output is by what was read.
+use mathlib.Core.Path.{_≡_, refl, _∙_, ap, ap₂, sym, subst}
+use mathlib.Core.Bool.{Bool, true, false}
+use mathlib.Core.List.{List, [], _∷_, _++_}
+use Prim.Native.Nat.{ℕ, zero, suc, _+_, _*_, _≤_, _<_}
+use native.Mathlib.Omega.{arith}
+use borrow.Author.Tests.{lt-ltb, le-ltb, leb-true, eqb-true}
+use lib.Dec.{leb, eqb}
+use lib.IntN.{pos}
+use lib.ListN.{length, getD, take, replicate, length-append, length-replicate}
+use lib.Seq.{sets}
+use Rattle.model.specs.declared.Measures.{Measures}
+use Rattle.model.specs.Basic.{AtMost}
+use Rattle.model.specs.Text.{digits}
+use Rattle.model.specs.Sheet.{Sheet, sideOf, entriesOf, cellsOf, row, rows, names, psfName, grayName, dotsName}
+use Rattle.model.specs.Sheet.{valuesOf, dotsText, sheetText, Shaped, InRange, Valid}
+use Rattle.model.specs.Format.{gridLength, fits, Read, readSheet}
+use Rattle.model.specs.SheetCalls.{result, refused, ReadOutcome, outcomeOf, readCall}
+use Rattle.model.specs.Program.{refusedText, processedText, handedDots, readText, output}
+use Rattle.model.proofs.Basic.{at-most-tail}
+use Rattle.model.proofs.Text.{length-most, and-true}
+use Rattle.model.proofs.Rows.{rows-grid, grid-length}
+use Rattle.model.proofs.Sheet.{read-exactly, entries-most, done-refused, front}
+
+-- ---- how long a sheet is at most
+-- values of at most three digits
+grid-most : (k : ℕ) → k < 1000 → (vs : List ℕ) → AtMost k vs → gridLength vs ≤ 4 * length vs
+grid-most k h [] a = omega arith
+grid-most k h (v ∷ vs) a =
+    let l = length-most 2 v (omega (arith, a .each 0)) in
+    omega (arith, grid-most k h vs (at-most-tail a))
+
+row-length : (v : ℕ) (vs : List ℕ) → length (row (v ∷ vs)) ≡ gridLength (v ∷ vs)
+row-length v [] = length-append (digits v) (10 ∷ []) ∙ omega arith
+row-length v (u ∷ vs) =
+    length-append (digits v) (32 ∷ row (u ∷ vs)) ∙ omega (arith, row-length u vs)
+
+rows-most : (w h : ℕ) (vs : List ℕ) → 1 ≤ w → length vs ≡ h * w → AtMost 255 vs → length (rows w h vs) ≤ 4 * length vs
+rows-most w h vs p e a =
+    let l = ap length (rows-grid w h vs p e) in
+    omega (arith, l, grid-length w 0 vs, grid-most 255 (omega arith) vs a)
+
+values-most : (m : Measures) → InRange m → AtMost 256 (valuesOf m)
+values-most m h = record { each = each }
+  where
+    each : (i : ℕ) → getD (valuesOf m) i 0 ≤ 256
+    each zero = h .wide .1
+    each (suc zero) = h .high .1
+    each (suc (suc zero)) = omega (arith, h .near)
+    each (suc (suc (suc zero))) = omega (arith, h .reached)
+    each (suc (suc (suc (suc zero)))) = omega (arith, h .kind)
+    each (suc (suc (suc (suc (suc i))))) = omega arith
+
+row-most : (m : Measures) → InRange m → length (row (valuesOf m)) ≤ 20
+row-most m h =
+    omega (
+      arith,
+      row-length (m .width) (m .height ∷ m .radius ∷ m .reach ∷ m .start ∷ []),
+      grid-most 256 (omega arith) (valuesOf m) (values-most m h),
+    )
+
+lengths : (a b c d e f g : List ℕ) → length (a ++ (b ++ (c ++ (d ++ (e ++ (f ++ g))))))
+    ≡ length a + (length b + (length c + (length d + (length e + (length f + length g)))))
+lengths a b c d e f g = simp length-append
+
+-- a sheet of at most 4,096 cells
+module _ (s : Sheet) (h : InRange (s .measures)) (z : Shaped s) (few : cellsOf (s .measures) ≤ 4096) where
+  abbrev m : Measures
+  m = s .measures
+
+  psf-most : AtMost 255 (s .psf) → length (rows (sideOf m) (sideOf m) (s .psf)) ≤ 196
+  psf-most a =
+      omega (
+        arith,
+        rows-most (sideOf m) (sideOf m) (s .psf) (omega arith) (z .psf-length) a,
+        z .psf-length,
+        entries-most m h,
+      )
+
+  gray-most : AtMost 255 (s .gray) → length (rows (m .width) (m .height) (s .gray)) ≤ 16384
+  gray-most a =
+      omega (arith, rows-most (m .width) (m .height) (s .gray) (h .wide .0) (z .gray-length) a, z .gray-length, few)
+
+  dots-most : AtMost 255 (s .dots) → length (dotsText s) ≤ 16389
+  unfolding dotsName
+  dots-most a = go (eqb (m .start) 2) refl
+    where
+      go : (b : Bool) → eqb (m .start) 2 ≡ b → length (dotsText s) ≤ 16389
+      go true t =
+          let e : length (s .dots) ≡ cellsOf m = rw t at (z .dots-length) in
+          rw t (omega (arith, rows-most (m .width) (m .height) (s .dots) (h .wide .0) e a, e, few))
+      go false t = rw t (omega arith)
+
+  pub text-most : AtMost 255 (s .psf) → AtMost 255 (s .gray) → AtMost 255 (s .dots) → length (sheetText s) ≤ 33034
+  unfolding sheetText names psfName grayName
+  text-most p g d =
+      omega (
+        arith,
+        lengths names (row (valuesOf m)) psfName (rows (sideOf m) (sideOf m) (s .psf)) grayName
+            (rows (m .width) (m .height) (s .gray)) (dotsText s),
+        row-most m h,
+        psf-most p,
+        gray-most g,
+        dots-most d,
+      )
+
+-- ---- the output by what was read
+-- more than 32,768 bytes
+pub output-long : (b : List ℕ) → 32768 < length b → output b ≡ refusedText 13 0
+unfolding output
+output-long b h = rw (lt-ltb 32768 (length b) h)
+
+-- the front of a buffer that holds one value
+pub same : {A : Type 0} (x : A) (k n : ℕ) → n ≤ k → take n (replicate k x) ≡ replicate n x
+same x k zero h = refl
+same x zero (suc n) h = absurd (omega arith)
+same x (suc k) (suc n) h = ap (λ l. x ∷ l) (same x k n (omega arith))
+
+no-entries : (l : List ℕ) → length l ≡ 0 → l ≡ []
+no-entries [] e = refl
+no-entries (x ∷ l) e = absurd (omega arith)
+
+-- the buffers that the program reads into
+abbrev pub emptyPsf : List ℕ
+emptyPsf = replicate 49 0
+
+abbrev pub emptyCells : List ℕ
+emptyCells = replicate 4096 0
+
+psf-long : length emptyPsf ≡ 49
+psf-long = length-replicate {A = ℕ} 49 0
+
+cells-long : length emptyCells ≡ 4096
+cells-long = length-replicate {A = ℕ} 4096 0
+
+-- what a sheet that was read hands on, from the front of the buffers
+module _ (s : Sheet) (v : Valid s) (room : fits (s .measures) 49 4096 4096 ≡ true) where
+  abbrev sizes : Measures
+  sizes = s .measures
+
+  few : (entriesOf sizes ≤ 49) × (cellsOf sizes ≤ 4096)
+  few =
+      let (p, rest) = and-true (leb (entriesOf sizes) 49) _ room in
+      let (g, _) = and-true (leb (cellsOf sizes) 4096) _ rest in
+      (leb-true (entriesOf sizes) 49 p, leb-true (cellsOf sizes) 4096 g)
+
+  psf-front : take (entriesOf sizes) (sets emptyPsf 0 (s .psf)) ≡ s .psf
+  psf-front = front emptyPsf (s .psf) (entriesOf sizes) (v .shaped .psf-length) (omega (arith, few, psf-long))
+
+  gray-front : take (cellsOf sizes) (sets emptyCells 0 (s .gray)) ≡ s .gray
+  gray-front = front emptyCells (s .gray) (cellsOf sizes) (v .shaped .gray-length) (omega (arith, few, cells-long))
+
+  dots-front : take (cellsOf sizes) (sets emptyCells 0 (s .dots)) ≡ handedDots s
+  dots-front = go (eqb (sizes .start) 2) refl
+    where
+      go : (t : Bool) → eqb (sizes .start) 2 ≡ t → take (cellsOf sizes) (sets emptyCells 0 (s .dots)) ≡ handedDots s
+      go true t =
+          let e = rw t at (v .shaped .dots-length) in
+          rw t (front emptyCells (s .dots) (cellsOf sizes) e (omega (arith, few, cells-long)))
+      go false t =
+          rw (t, no-entries (s .dots) (rw t at (v .shaped .dots-length))) (same 0 4096 (cellsOf sizes) (few .1))
+
+  abbrev text : List ℕ
+  text =
+      processedText sizes (take (entriesOf sizes) (sets emptyPsf 0 (s .psf)))
+      (take (cellsOf sizes) (sets emptyCells 0 (s .gray))) (take (cellsOf sizes) (sets emptyCells 0 (s .dots)))
+      (replicate (cellsOf sizes) (pos 0))
+
+  text-is : text ≡ processedText sizes (s .psf) (s .gray) (handedDots s) (replicate (cellsOf sizes) (pos 0))
+  text-is = rw (psf-front, gray-front, dots-front)
+
+-- what is handed on of an outcome
+abbrev Handed : List ℕ → ReadOutcome → Measures → Type 0
+Handed b o m =
+    (output b ≡ processedText m (take (entriesOf m) (o .psf)) (take (cellsOf m) (o .gray)) (take (cellsOf m) (o .dots))
+    (replicate (cellsOf m) (pos 0)))
+    × InRange m
+    × (entriesOf m ≤ 49)
+    × (cellsOf m ≤ 4096)
+
+module _ (b : List ℕ) (short : length b ≤ 32768) where
+  abbrev r : Read
+  r = readSheet b 49 4096 4096
+
+  abbrev outcome : ReadOutcome
+  outcome = outcomeOf r emptyPsf emptyCells emptyCells
+
+  outcome-is : readCall b emptyPsf emptyCells emptyCells ≡ outcome
+  unfolding readCall
+  outcome-is = ap₂ (λ p c. outcomeOf (readSheet b p c c) emptyPsf emptyCells emptyCells) psf-long cells-long
+
+  output-is : output b ≡ readText r
+  unfolding output
+  output-is = rw (le-ltb 32768 (length b) short)
+
+  pub output-refused : (n o : ℕ) → readCall b emptyPsf emptyCells emptyCells .reply ≡ refused n o
+      → output b ≡ refusedText n o
+  output-refused n o e = output-is ∙ go (eqb (r .refusal) 0) refl
+    where
+      reply : outcome .reply ≡ refused n o
+      reply = sym (ap (λ c. c .reply) outcome-is) ∙ e
+
+      go : (t : Bool) → eqb (r .refusal) 0 ≡ t → readText r ≡ refusedText n o
+      go true t =
+          let k : result (r .sheet .measures) ≡ refused n o = rw t at reply in
+          done-refused k
+      go false t =
+          let k : refused (r .refusal) (r .at) ≡ refused n o = rw t at reply in
+          let x : r .refusal ≡ n = cc in
+          let y : r .at ≡ o = cc in
+          rw t (ap₂ refusedText x y)
+
+  pub output-read : (m : Measures) → readCall b emptyPsf emptyCells emptyCells .reply ≡ result m
+      → Handed b (readCall b emptyPsf emptyCells emptyCells) m
+  output-read m e = subst (λ c. Handed b c m) (sym outcome-is) (go (eqb (r .refusal) 0) refl)
+    where
+      reply : outcome .reply ≡ result m
+      reply = sym (ap (λ c. c .reply) outcome-is) ∙ e
+
+      go : (t : Bool) → eqb (r .refusal) 0 ≡ t → Handed b outcome m
+      go true t =
+          let s = r .sheet in
+          let k : result (s .measures) ≡ result m = rw t at reply in
+          let n : s .measures ≡ m = cc in
+          let (_, v, room) = read-exactly b 49 4096 4096 s (eqb-true (r .refusal) 0 t, refl) in
+          let o : output b ≡ text s v room = output-is ∙ rw t (sym (text-is s v room)) in
+          subst (Handed b outcome) n (o, v .in-range, few s v room .0, few s v room .1)
+      go false t =
+          let k : refused (r .refusal) (r .at) ≡ result m = rw t at reply in
+          done-refused (sym k)

@@ -1,0 +1,109 @@
+-- The sheet of document 01: the one text of a plate, and which plates a sheet can hold.
+use mathlib.Core.List.{List, [], _∷_, _++_}
+use mathlib.Core.Logic.{_⊎_}
+use mathlib.Core.Path.{_≡_}
+use Prim.Native.Nat.{ℕ, zero, suc, _+_, _*_, _≤_, _<_}
+use lib.Dec.{eqb}
+use lib.ListN.{length, take, drop}
+use Rattle.model.specs.declared.Measures.{Measures}
+use Rattle.model.specs.Basic.{pick, AtMost}
+use Rattle.model.specs.Text.{bytes, space, lineEnd, digits}
+
+-- what a sheet holds; with start 0 or 1 there are no dots
+pub record Sheet : Type 0 where
+  pub measures : Measures
+  pub psf : List ℕ
+  pub gray : List ℕ
+  pub dots : List ℕ
+
+-- how long a row of the psf is, how many entries it has, and how many cells there are
+abbrev pub sideOf : Measures → ℕ
+sideOf m = 2 * m .radius + 1
+
+abbrev pub entriesOf : Measures → ℕ
+entriesOf m = sideOf m * sideOf m
+
+abbrev pub cellsOf : Measures → ℕ
+cellsOf m = m .height * m .width
+
+-- the dots stand in a sheet with start 2 only
+abbrev pub dotsIn : Measures → ℕ
+dotsIn m = pick (eqb (m .start) 2) (cellsOf m) 0
+
+-- ---- the text
+-- values separated by one space, and the end of the line
+abbrev pub row : List ℕ → List ℕ
+row [] = lineEnd ∷ []
+row (v ∷ []) = digits v ++ (lineEnd ∷ [])
+row (v ∷ u ∷ vs) = digits v ++ (space ∷ row (u ∷ vs))
+
+-- h rows of w values
+abbrev pub rows : (w h : ℕ) → List ℕ → List ℕ
+rows w zero vs = []
+rows w (suc h) vs = row (take w vs) ++ rows w h (drop w vs)
+
+-- the names of line 1, and those above the rows
+unfoldable pub names : List ℕ
+names = bytes "width height radius reach start\n"
+
+unfoldable pub psfName : List ℕ
+psfName = bytes "psf\n"
+
+unfoldable pub grayName : List ℕ
+grayName = bytes "gray\n"
+
+unfoldable pub dotsName : List ℕ
+dotsName = bytes "dots\n"
+
+-- the values of line 2
+abbrev pub valuesOf : Measures → List ℕ
+valuesOf m = m .width ∷ m .height ∷ m .radius ∷ m .reach ∷ m .start ∷ []
+
+abbrev pub dotsText : Sheet → List ℕ
+dotsText s =
+    let m = s .measures in
+    pick (eqb (m .start) 2) (dotsName ++ rows (m .width) (m .height) (s .dots)) []
+
+-- the one text of a sheet
+unfoldable pub sheetText : Sheet → List ℕ
+sheetText s =
+    let m = s .measures in
+    names ++ (row (valuesOf m) ++
+    (psfName ++ (rows (sideOf m) (sideOf m) (s .psf) ++
+    (grayName ++ (rows (m .width) (m .height) (s .gray) ++ dotsText s)))))
+
+-- ---- which sheets there are
+-- as many numbers as the measures ask for, each of any size
+pub record Shaped (s : Sheet) : Type 0 where
+  pub psf-length : length (s .psf) ≡ entriesOf (s .measures)
+  pub gray-length : length (s .gray) ≡ cellsOf (s .measures)
+  pub dots-length : length (s .dots) ≡ dotsIn (s .measures)
+
+-- the measures in their fields
+pub record InRange (m : Measures) : Type 0 where
+  pub wide : (1 ≤ m .width) × (m .width ≤ 256)
+  pub high : (1 ≤ m .height) × (m .height ≤ 256)
+  pub near : m .radius ≤ 3
+  pub reached : m .reach ≤ 6
+  pub kind : m .start ≤ 2
+
+-- every number in its field
+pub record Valid (s : Sheet) : Type 0 where
+  pub in-range : InRange (s .measures)
+  pub shaped : Shaped s
+  pub psf-most : AtMost 255 (s .psf)
+  pub gray-most : AtMost 255 (s .gray)
+  pub dots-most : AtMost 1 (s .dots)
+
+-- ---- the bytes that can begin a sheet, its numbers taken as if of any size
+pub record Begins (b : List ℕ) : Type 0 where
+  pub sheet : Sheet
+  pub shaped : Shaped sheet
+  pub rest : List ℕ
+  pub text : sheetText sheet ≡ b ++ rest
+
+-- the place of the first byte that no sheet could have there, or of the end where it comes too early
+pub record Stops (b : List ℕ) (at : ℕ) : Type 0 where
+  pub before : Begins (take at b)
+  pub here : ((at < length b) × (Begins (take (at + 1) b) → ⊥))
+      ⊎ ((at ≡ length b) × ((s : Sheet) → Shaped s → b ≡ sheetText s → ⊥))
