@@ -1,20 +1,24 @@
 -- What the proofs of the judges share: the sum of a list of bytes and whether one is above a bound, each from an index
--- on as a loop takes them; the laws by which a return is read off its tests; and what is known once 1 and 2 are judged.
-use mathlib.Core.Bool.{true}
-use mathlib.Core.List.{List, _∷_}
+-- on as a loop takes them; the laws by which a return is read off its tests; and what is known once 1 and 2 are judged,
+-- or 5.
+use mathlib.Core.Bool.{true, not}
+use mathlib.Core.List.{List, [], _∷_}
 use mathlib.Core.Path.{_≡_}
 use Prim.Native.Nat.{ℕ, _+_, _*_, _≤_, _<_}
+use native.Mathlib.Nat.{mul-le-mul}
 use native.Mathlib.Numerals.{add-one}
-use borrow.Author.Tests.{lt-ltb, le-ltb, eq-eqb, ne-eqb, ltb-false}
-use lib.Dec.{T}
+use native.Mathlib.Omega.{arith}
+use borrow.Author.Tests.{lt-ltb, le-ltb, eq-eqb, ne-eqb, ltb-false, eqb-true, not-false}
+use lib.Dec.{T, eqb}
 use lib.ListN.{length, drop, getD}
 use lib.Seq.{drop-cons}
 use mir.Syntax.{w64}
 use mir.Val.{Fits}
 use Rattle.algebra.proofs.Machine.{factors-fit}
 use Rattle.model.specs.Psf.{total}
-use Rattle.model.specs.Refusal.{Refusal, firstOf, above, badSize, badRadius}
-use Rattle.model.proofs.Refusal.{numbered, none, size-inside}
+use Rattle.model.specs.declared.Measures.{Measures}
+use Rattle.model.specs.Refusal.{Refusal, firstOf, differs, above, badSize, badRadius, badReach, badKind, badLength}
+use Rattle.model.proofs.Refusal.{numbered, none, neither, size-inside}
 
 module _ (l : List ℕ) (i : ℕ) (h : i < length l) where
   pub total-next : total (drop i l) ≡ getD l i 0 + total (drop (i + 1) l)
@@ -31,7 +35,7 @@ module _ (l : List ℕ) (i : ℕ) (h : i < length l) where
 
 pub ruleset tests = (lt-ltb, le-ltb, eq-eqb, ne-eqb)
 
--- where neither 1 nor 2 is drawn, the product of the cells fits, and the radius is one that `judge_slices` takes
+-- where neither 1 nor 2 is drawn, the product of the cells fits, and the radius is one that `judge_lengths` takes
 pub sized : (w h r : ℕ) (k : List Refusal) {x : ℕ} → T (numbered k)
     → x ≡ firstOf (badSize w h ∷ badRadius r ∷ k) → x ≡ 0
     → Fits w64 (h * w) × (r ≤ 3)
@@ -39,3 +43,18 @@ sized w h r k t e z =
     let (size, (radius, _)) = none (badSize w h ∷ badRadius r ∷ k) t e z in
     let (wide, high) = size-inside w h size in
     (factors-fit 256 256 (high .1) (wide .1) tt, ltb-false 3 r radius)
+
+-- 1 to 4
+abbrev pub measured : Measures → List Refusal
+measured m = badSize (m .width) (m .height) ∷ badRadius (m .radius) ∷ badReach (m .reach) ∷ badKind (m .start) ∷ []
+
+-- where 5 is not drawn, the psf is no longer than its sum takes
+pub psf-most : (r : ℕ) (psf : List ℕ) (cells : ℕ) (lengths : List ℕ) {x : ℕ} → r ≤ 3
+    → x ≡ firstOf (badLength r psf cells lengths ∷ []) → x ≡ 0
+    → length psf ≤ 65536
+psf-most r psf cells lengths h e z =
+    let side : ℕ = 2 * r + 1 in
+    let (exact, _) = none (badLength r psf cells lengths ∷ []) tt e z in
+    let wrong = neither (not (eqb (length psf) (side * side))) (differs cells lengths) exact .0 in
+    let is = eqb-true (length psf) (side * side) (not-false _ wrong) in
+    omega (arith, mul-le-mul {n₁ = side} {m₁ = side} {n₂ = 7} {m₂ = 7} (omega arith) (omega arith))

@@ -6,7 +6,7 @@ ghost use lib.ListN.{length};
 ghost use Rattle.model.specs.Psf.{total};
 ghost use Rattle.model.specs.Refusal.{firstOf, either, above, badSize, badRadius, badReach, badKind, badLength, badSum};
 ghost use Rattle.model.specs.Refusal.{badDot, badGiven, handed};
-ghost use Rattle.model.specs.Refusal.{autocorrelationRefusal, halftoneRefusal, startRefusal};
+ghost use Rattle.model.specs.Refusal.{autocorrelationRefusal, halftoneRefusal, startRefusal, writeRefusal};
 use model::Measures;
 
 // the sum of bytes, at most as many as the cells of the largest plate
@@ -82,8 +82,18 @@ fn judge_options(reach: usize, kind: usize) -> u32
     0
 }
 
-// 5 and 6, of a psf of radius at most 3 and of slices that should be as long as `cells`
-pub fn judge_slices(
+// 1 to 4
+fn judge_all_measures(m: Measures) -> u32
+    ensures { λ r. ⌜ r ≡ firstOf
+        (badSize (m .width) (m .height) ∷ badRadius (m .radius) ∷ badReach (m .reach) ∷ badKind (m .start) ∷ []) ⌝ }
+{
+    let size = judge_measures(m.width, m.height, m.radius);
+    let options = judge_options(m.reach, m.start);
+    first(size, options)
+}
+
+// 5, of a psf of radius at most 3 and of slices that should be as long as `cells`
+fn judge_lengths(
     radius: usize,
     psf: &[u8],
     cells: usize,
@@ -92,8 +102,7 @@ pub fn judge_slices(
     table: usize,
 ) -> u32
     requires { ⌜ radius ≤ 3 ⌝ }
-    ensures { λ r. ⌜ r ≡ firstOf
-        (badLength radius (now (psf .entry)) cells (gray ∷ dots ∷ table ∷ []) ∷ badSum (now (psf .entry)) ∷ []) ⌝ }
+    ensures { λ r. ⌜ r ≡ firstOf (badLength radius (now (psf .entry)) cells (gray ∷ dots ∷ table ∷ []) ∷ []) ⌝ }
 {
     let side = 2 * radius + 1;
     if psf.len() != side * side {
@@ -107,6 +116,26 @@ pub fn judge_slices(
     }
     if table != cells {
         return 5;
+    }
+    0
+}
+
+// 5 and 6, of the same
+pub fn judge_slices(
+    radius: usize,
+    psf: &[u8],
+    cells: usize,
+    gray: usize,
+    dots: usize,
+    table: usize,
+) -> u32
+    requires { ⌜ radius ≤ 3 ⌝ }
+    ensures { λ r. ⌜ r ≡ firstOf
+        (badLength radius (now (psf .entry)) cells (gray ∷ dots ∷ table ∷ []) ∷ badSum (now (psf .entry)) ∷ []) ⌝ }
+{
+    let lengths = judge_lengths(radius, psf, cells, gray, dots, table);
+    if lengths != 0 {
+        return lengths;
     }
     let total = sum(psf);
     if total == 0 {
@@ -139,9 +168,7 @@ fn judge_given(kind: usize, dots: &[u8]) -> u32
 pub fn judge_handed(measures: Measures, psf: &[u8], gray: usize, dots: usize, table: usize) -> u32
     ensures { λ r. ⌜ r ≡ firstOf (handed measures (now (psf .entry)) (gray ∷ dots ∷ table ∷ [])) ⌝ }
 {
-    let size = judge_measures(measures.width, measures.height, measures.radius);
-    let options = judge_options(measures.reach, measures.start);
-    let number = first(size, options);
+    let number = judge_all_measures(measures);
     if number != 0 {
         return number;
     }
@@ -209,4 +236,19 @@ pub fn judge_start(measures: Measures, psf: &[u8], gray: &[u8], dots: &[u8], tab
     let input = judge_handed(measures, psf, gray.len(), dots.len(), table);
     let bytes = judge_given(measures.start, dots);
     first(input, bytes)
+}
+
+// the whole list of the writer of a sheet
+pub fn judge_sheet(measures: Measures, psf: &[u8], gray: &[u8], dots: &[u8]) -> u32
+    ensures { λ r. ⌜ r ≡ writeRefusal measures (now (psf .entry)) (now (gray .entry)) (now (dots .entry)) ⌝ }
+{
+    let number = judge_all_measures(measures);
+    if number != 0 {
+        return number;
+    }
+    let cells = measures.height * measures.width;
+    let given = dots.len();
+    let lengths = judge_lengths(measures.radius, psf, cells, gray.len(), given, given);
+    let bytes = judge_dots(dots);
+    first(lengths, bytes)
 }
