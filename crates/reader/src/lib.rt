@@ -1,0 +1,121 @@
+// A text read item by item: a word, a number or a line end with its byte offset.
+ghost use mathlib.Core.Bool.{true};
+ghost use mathlib.Core.Path.{_≡_};
+ghost use Prim.Native.Nat.{_≤_};
+ghost use lib.ListN.{length, drop};
+ghost use Rattle.model.specs.Text.{isLetter, isDigit, grow, wordEnd, runFrom, stepAt};
+use model::Item;
+use model::Run;
+use model::Step;
+
+fn is_letter(b: u8) -> bool
+    ensures { λ r. ⌜ r ≡ isLetter b ⌝ }
+{
+    97 <= b && b <= 122
+}
+
+fn is_digit(b: u8) -> bool
+    ensures { λ r. ⌜ r ≡ isDigit b ⌝ }
+{
+    48 <= b && b <= 57
+}
+
+// a number with one digit more, 257 for all that is above 256
+fn with_digit(value: usize, b: u8) -> usize
+    requires { ⌜ value ≤ 257 ⌝ }
+    requires { ⌜ isDigit b ≡ true ⌝ }
+    ensures { λ r. ⌜ r ≡ grow value b ⌝ }
+    ensures { λ r. ⌜ r ≤ 257 ⌝ }
+{
+    let grown = value * 10 + ((b - 48) as usize);
+    if grown < 257 { grown } else { 257 }
+}
+
+// where the letters from a place on end
+fn word_end(s: &[u8], at: usize) -> usize
+    requires { ⌜ at ≤ length (now s) ⌝ }
+    ensures { λ r. ⌜ r ≡ wordEnd at (drop at (now (s .entry))) ⌝ }
+{
+    let mut i = at;
+    while i < s.len() {
+        if !is_letter(s[i]) {
+            return i;
+        }
+        i += 1;
+    }
+    i
+}
+
+// the digits from a place on
+fn digit_run(s: &[u8], at: usize) -> Run
+    requires { ⌜ at ≤ length (now s) ⌝ }
+    ensures { λ r. ⌜ r ≡ runFrom 0 at (drop at (now (s .entry))) ⌝ }
+{
+    let mut value: usize = 0;
+    let mut i = at;
+    while i < s.len() {
+        let b = s[i];
+        if !is_digit(b) {
+            return Run {
+                value: value,
+                end: i,
+            };
+        }
+        value = with_digit(value, b);
+        i += 1;
+    }
+    Run {
+        value: value,
+        end: i,
+    }
+}
+
+// The item at a place.
+pub fn step_at(s: &[u8], at: usize) -> Step
+    ensures { λ r. ⌜ r ≡ stepAt (now (s .entry)) at ⌝ }
+{
+    if s.len() <= at {
+        return Step {
+            item: Item::Other,
+            at: at,
+            next: at,
+        };
+    }
+    let b = s[at];
+    if is_letter(b) {
+        let end = word_end(s, at);
+        return Step {
+            item: Item::Word,
+            at: at,
+            next: end,
+        };
+    }
+    if is_digit(b) {
+        let run = digit_run(s, at);
+        let end = run.end;
+        if b == 48 && at + 1 < end {
+            return Step {
+                item: Item::Other,
+                at: at + 1,
+                next: at + 1,
+            };
+        }
+        return Step {
+            item: Item::Number(run.value),
+            at: at,
+            next: end,
+        };
+    }
+    if b == 10 {
+        return Step {
+            item: Item::LineEnd,
+            at: at,
+            next: at + 1,
+        };
+    }
+    Step {
+        item: Item::Other,
+        at: at,
+        next: at,
+    }
+}
