@@ -1,0 +1,27 @@
+-- Bytes put in two parts, a number put in two parts, and how many digits the numbers below 1,000 have.
+use mathlib.Core.List.{List, [], _∷_, _++_}
+use mathlib.Core.Path.{_≡_, _∙_, ap, sym}
+use Prim.Native.Nat.{ℕ, suc, _+_, _/_, _%_, _≤_, _<_}
+use native.Mathlib.Nat.{add-zero, add-suc, suc-add}
+use native.Mathlib.Omega.{arith}
+use lib.ListN.{length, set}
+use lib.Seq.{sets}
+use Rattle.model.specs.Text.{digits}
+use Rattle.model.proofs.Text.{digits-more, length-low, length-more}
+
+pub sets-append : (a b l : List ℕ) (i : ℕ) → sets l i (a ++ b) ≡ sets (sets l i a) (i + length a) b
+sets-append [] b l i = rw add-zero
+sets-append (x ∷ a) b l i = sets-append a b (set l i x) (suc i) ∙ rw (suc-add, add-suc)
+
+-- the last digit, after the higher ones were put
+pub last-digit : (out higher : List ℕ) (at end n : ℕ) → 10 ≤ n
+    → end ≡ at + length (digits (n / 10)) → higher ≡ sets out at (digits (n / 10))
+    → set higher end (48 + n % 10) ≡ sets out at (digits n)
+last-digit out higher at end n h e p =
+    rw (e, p) (sym (ap (sets out at) (digits-more n h) ∙ sets-append (digits (n / 10)) ((48 + n % 10) ∷ []) out at))
+
+pub two-digits : (n : ℕ) → 10 ≤ n → n < 100 → length (digits n) ≡ 2
+two-digits n h k = length-more n h ∙ rw (length-low (n / 10) (omega arith))
+
+pub three-digits : (n : ℕ) → 100 ≤ n → n < 1000 → length (digits n) ≡ 3
+three-digits n h k = length-more n (omega arith) ∙ rw (two-digits (n / 10) (omega arith) (omega arith))
