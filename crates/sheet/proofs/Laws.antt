@@ -1,0 +1,90 @@
+-- The outcomes of reading and of writing a sheet, one law for each.
+use mathlib.Core.Bool.{true, false}
+use mathlib.Core.List.{List}
+use mathlib.Core.Path.{_≡_, refl, ap, sym}
+use Prim.Native.Nat.{ℕ, zero, suc, _≤_, _<_}
+use borrow.Author.Tests.{eq-eqb, ne-eqb, le-leb, lt-leb}
+use lib.ListN.{length}
+use lib.Seq.{sets}
+use Rattle.model.specs.declared.Head.{Head}
+use Rattle.model.specs.declared.Measures.{Measures}
+use Rattle.model.specs.declared.Place.{Place}
+use Rattle.model.specs.Refusal.{writeRefusal}
+use Rattle.model.specs.Sheet.{sheetText, InRange}
+use Rattle.model.specs.Format.{body, parse, headOf, fits, sheetOf, bodyEnd, readSheet}
+use Rattle.model.specs.SheetCalls.{result, refused, ReadOutcome, readCall}
+use Rattle.model.specs.SheetCalls.{WriteOutcome, writtenSheet, unlessRefused, writeText, writeCall}
+use Rattle.model.proofs.Sheet.{head-in-range}
+
+-- ---- reading
+-- an outcome as the contract asks for it
+pub read : {r v : ReadOutcome} → r ≡ v
+    → (v .reply ≡ r .reply) × ((v .psf ≡ r .psf) × ((v .gray ≡ r .gray) × (v .dots ≡ r .dots)))
+read e =
+    (sym (ap (λ r. r .reply) e), (sym (ap (λ r. r .psf) e), (sym (ap (λ r. r .gray) e), sym (ap (λ r. r .dots) e))))
+
+module _ (bytes psf gray dots : List ℕ) (h : Head) (e : h ≡ headOf bytes) where
+  -- refused, and the buffers left
+  abbrev unread : (number at : ℕ) → ReadOutcome
+  unread n o = record { reply = refused n o; psf = psf; gray = gray; dots = dots }
+
+  pub head-refused : (h .refusal ≡ 0 → ⊥) → readCall bytes psf gray dots ≡ unread (h .refusal) (h .at)
+  unfolding readCall readSheet
+  head-refused z = rw (← e, ne-eqb (h .refusal) 0 z) (rw (ne-eqb (h .refusal) 0 z))
+
+  module _ (z : h .refusal ≡ 0) where
+    pub in-range : InRange (h .measures)
+    in-range = rw e (head-in-range bytes (rw e at z))
+
+    pub no-room : fits (h .measures) (length psf) (length gray) (length dots) ≡ false
+        → readCall bytes psf gray dots ≡ unread 12 (h .at)
+    unfolding readCall readSheet
+    no-room f = rw (← e, eq-eqb (h .refusal) 0 z, f)
+
+    module _ (f : fits (h .measures) (length psf) (length gray) (length dots) ≡ true) (p : Place)
+        (q : p ≡ bodyEnd (h .measures) bytes (h .at)) where
+      pub body-refused : (p .refusal ≡ 0 → ⊥) → readCall bytes psf gray dots ≡ unread (p .refusal) (p .at)
+      unfolding readCall readSheet
+      body-refused y =
+          rw (← e, eq-eqb (h .refusal) 0 z, f, ← q, ne-eqb (p .refusal) 0 y) (rw (ne-eqb (p .refusal) 0 y))
+
+      pub read-done : p .refusal ≡ 0
+          → let s = sheetOf (h .measures) (parse (body (h .measures)) bytes (h .at) .values) in
+          readCall bytes psf gray dots
+          ≡ record {
+            reply = result (h .measures);
+            psf = sets psf 0 (s .psf);
+            gray = sets gray 0 (s .gray);
+            dots = sets dots 0 (s .dots);
+          }
+      unfolding readCall readSheet
+      read-done y = rw (← e, eq-eqb (h .refusal) 0 z, f, ← q, eq-eqb (p .refusal) 0 y)
+
+-- ---- writing
+-- an outcome as the contract asks for it
+pub wrote : {w v : WriteOutcome} → w ≡ v → (v .reply ≡ w .reply) × (v .out ≡ w .out)
+wrote e = (sym (ap (λ w. w .reply) e), sym (ap (λ w. w .out) e))
+
+module _ (m : Measures) (psf gray dots out : List ℕ) where
+  abbrev text : List ℕ
+  text = sheetText (writtenSheet m psf gray dots)
+
+  pub write-refused : {n : ℕ} → n ≡ writeRefusal m psf gray dots → (n ≡ 0 → ⊥)
+      → writeCall m psf gray dots out ≡ record { reply = refused n 0; out = out }
+  unfolding writeCall
+  write-refused {n} e z = rw (← e) (go n z)
+    where
+      go : (n : ℕ) → (n ≡ 0 → ⊥)
+          → unlessRefused n out (writeText text out) ≡ record { reply = refused n 0; out = out }
+      go zero z = absurd (z refl)
+      go (suc n) z = refl
+
+  pub write-short : writeRefusal m psf gray dots ≡ 0 → length out < length text
+      → writeCall m psf gray dots out ≡ record { reply = refused 12 (length out); out = out }
+  unfolding writeCall
+  write-short z h = rw (z, lt-leb (length text) (length out) h)
+
+  pub write-done : writeRefusal m psf gray dots ≡ 0 → length text ≤ length out
+      → writeCall m psf gray dots out ≡ record { reply = result (length text); out = sets out 0 text }
+  unfolding writeCall
+  write-done z h = rw (z, le-leb (length text) (length out) h)

@@ -1,0 +1,66 @@
+// The public calls that read and write a sheet.
+ghost use mathlib.Core.Path.{_≡_};
+ghost use Rattle.model.specs.SheetCalls.{readingOf, readCall, writingOf, writeCall};
+use blocks::has_room;
+use blocks::judge_body;
+use blocks::read_head;
+use blocks::store_body;
+use judge::judge_sheet;
+use layout::put_sheet;
+use layout::sheet_length;
+use model::Measures;
+use model::Reading;
+use model::Writing;
+
+// Reads a sheet into buffers that are long enough. The whole sheet is judged before anything is stored.
+pub fn read_sheet(bytes: &[u8], psf: &mut [u8], gray: &mut [u8], dots: &mut [u8]) -> Reading
+    ensures { λ r. ⌜ readingOf r ≡ readCall (now (bytes .entry))
+        (now (psf .entry)) (now (gray .entry)) (now (dots .entry)) .reply ⌝ }
+    ensures { λ _. ⌜ now (psf .exit) ≡ readCall (now (bytes .entry))
+        (now (psf .entry)) (now (gray .entry)) (now (dots .entry)) .psf ⌝ }
+    ensures { λ _. ⌜ now (gray .exit) ≡ readCall (now (bytes .entry))
+        (now (psf .entry)) (now (gray .entry)) (now (dots .entry)) .gray ⌝ }
+    ensures { λ _. ⌜ now (dots .exit) ≡ readCall (now (bytes .entry))
+        (now (psf .entry)) (now (gray .entry)) (now (dots .entry)) .dots ⌝ }
+{
+    let head = read_head(bytes);
+    if head.refusal != 0 {
+        return Reading::Refused(head.refusal, head.at);
+    }
+    let measures = head.measures;
+    let line_3 = head.at;
+    if !has_room(measures, psf.len(), gray.len(), dots.len()) {
+        return Reading::Refused(12, line_3);
+    }
+    let end = judge_body(bytes, line_3, measures);
+    if end.refusal != 0 {
+        return Reading::Refused(end.refusal, end.at);
+    }
+    store_body(bytes, line_3, measures, psf, gray, dots);
+    Reading::Done(measures)
+}
+
+// Writes a sheet with start 2 into an output that is long enough.
+pub fn write_sheet(
+    measures: Measures,
+    psf: &[u8],
+    gray: &[u8],
+    dots: &[u8],
+    out: &mut [u8],
+) -> Writing
+    ensures { λ r. ⌜ writingOf r ≡ writeCall measures
+        (now (psf .entry)) (now (gray .entry)) (now (dots .entry)) (now (out .entry)) .reply ⌝ }
+    ensures { λ _. ⌜ now (out .exit) ≡ writeCall measures
+        (now (psf .entry)) (now (gray .entry)) (now (dots .entry)) (now (out .entry)) .out ⌝ }
+{
+    let number = judge_sheet(measures, psf, gray, dots);
+    if number != 0 {
+        return Writing::Refused(number, 0);
+    }
+    let length = sheet_length(measures, psf, gray, dots);
+    if out.len() < length {
+        return Writing::Refused(12, out.len());
+    }
+    put_sheet(out, measures, psf, gray, dots);
+    Writing::Done(length)
+}
