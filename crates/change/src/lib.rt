@@ -69,7 +69,7 @@ pub fn peak(radius: usize, c: &[i32]) -> i32
 }
 
 // s(m) × (T(m) - T(n))
-fn difference(dots: &[u8], table: &[i32], m: usize, n: usize) -> i32
+pub fn difference(dots: &[u8], table: &[i32], m: usize, n: usize) -> i32
     requires { ⌜ (m < length (now dots)) × (m < length (now table)) × (n < length (now table)) ⌝ }
     requires { ⌜ Small mostFiltered (now table) ⌝ }
     ensures { λ r. ⌜ r ≡ sign (now (dots .entry)) m

@@ -225,6 +225,11 @@ offsets-ordered reach h =
       farthest-first = is-sorted l order;
     }
 
+-- each entry is within reach
+pub entry-within : (reach k : ℕ) → reach ≤ 6 → k < length (offsets reach)
+    → Within reach (getD (offsets reach) k itself)
+entry-within reach k q h = offsets-ordered reach q .within _ (entry-in (offsets reach) k h)
+
 -- ---- where an offset lands
 lands-inside : (limit : ℕ) (z : ℤ) → leZ (pos 0) z && ltZ z (pos limit) ≡ true → natAbs z < limit
 lands-inside limit (pos n) h = ltb-true n limit (and-eq-true-iff (leb 0 n) (ltb n limit) .0 h .1)

@@ -3,4 +3,5 @@ pub mod Under
 pub mod Visit
 pub mod Partner
 pub mod Trials
+pub mod Clear
 pub mod Turns

@@ -3,7 +3,8 @@
 use mathlib.Core.Bool.{Bool, true, false, _&&_, and-eq-true-iff}
 use mathlib.Core.List.{List}
 use mathlib.Core.Path.{_≡_, refl, sym, _∙_, ap, subst}
-use Prim.Native.Nat.{ℕ, suc, _+_, _<_}
+use Prim.Native.Nat.{ℕ, zero, suc, _+_, _≤_, _<_}
+use native.Mathlib.Numerals.{add-one}
 use native.Mathlib.Omega.{arith}
 use lib.ListN.{length, getD}
 use Rattle.model.specs.declared.ScanResult.{ScanResult}
@@ -57,3 +58,9 @@ module _ (t : Target) {reach : ℕ} {downs rights : List ℕ} {count : ℕ} (hel
           pass-declined t reach (sweepOf dots r) m k here
           (known (λ o. suits (t .width) (t .height) dots m o ≡ true) s)
           (known (λ o. lowers t dots (swap dots m (partner (t .width) m o)) ≡ false) d)
+
+  -- where every one failed, none is left to try
+  pub all-failed : ((k : ℕ) → k < count → Test false k) → (n : ℕ) → n ≤ count → left n ≡ left 0
+  all-failed fail zero h = refl
+  all-failed fail (suc n) h =
+      ap left (sym (add-one n)) ∙ test-failed n (omega arith) (fail n (omega arith)) ∙ all-failed fail n (omega arith)

@@ -11,7 +11,8 @@ ghost use Rattle.model.specs.Refusal.{HalftoneFits};
 ghost use Rattle.model.specs.State.{LaterFits};
 ghost use Rattle.model.specs.Reference.{swap, reference, lowers};
 ghost use Rattle.model.specs.Partners.{biased, partner, worthAt, HoldsOffsets, HoldsWorths};
-ghost use Rattle.model.specs.Scan.{toggles, suits, Lowers, swapsAfter, visit, resultOf};
+ghost use Rattle.model.specs.Scan.{toggles, suits, Lowers, swaps, swapsAfter, visit, resultOf};
+ghost use Rattle.prune.specs.Grid.{GridFits};
 ghost use Rattle.model.specs.Calls.{toggleScanned, swapScanned, atRest};
 use change::lower_swap;
 use change::lowers as is_lower;
@@ -24,6 +25,9 @@ use partners::next;
 use partners::partner_cell;
 use partners::weigh_offsets;
 use partners::within_reach;
+use prune::lay_worths;
+use prune::may_lower;
+use prune::side_of;
 use trial::make_swap;
 use trial::make_toggle;
 use trial::weigh_swap;
@@ -141,6 +145,44 @@ fn lowering(
     lower_swap(dots, table, m, n, worth)
 }
 
+// Where the trials of a cell begin: at the first offset, or past the last where no partner can lower the squared error.
+fn first_trial(
+    measures: Measures,
+    psf: &[u8],
+    gray: &[u8],
+    c: &[i32],
+    downs: &[u8],
+    rights: &[u8],
+    count: usize,
+    side: usize,
+    grid: &[i32],
+    dots: &[u8],
+    table: &[i32],
+    at: Cell,
+) -> usize
+    requires { ⌜ HalftoneFits (measures .width) (measures .height) (measures .radius) (now psf) (now gray) (now dots)
+        (length (now table)) ⌝ }
+    requires { ⌜ now table ≡ filteredErrors (targetFor measures (now psf) (now gray)) (now dots) ⌝ }
+    requires { ⌜ HoldsKernel (measures .radius) (now psf) (now c) ⌝ }
+    requires { ⌜ HoldsOffsets (measures .reach) (now downs) (now rights) count ⌝ }
+    requires { ⌜ GridFits (measures .radius) (now c) (measures .reach) side (now grid) ⌝ }
+    requires { ⌜ (at .row < measures .height) × (at .col < measures .width) ⌝ }
+    ensures { λ r. ⌜ (r ≤ count) × ((scan : ScanResult)
+        → visit (targetFor measures (now (psf .entry)) (now (gray .entry)))
+        (swapsAfter (measures .width) (measures .height) (measures .reach) r)
+        (now (dots .entry)) scan (cellAt (measures .width) (at .row) (at .col))
+        ≡ visit (targetFor measures (now (psf .entry)) (now (gray .entry)))
+        (swaps (measures .width) (measures .height) (measures .reach))
+        (now (dots .entry)) scan (cellAt (measures .width) (at .row) (at .col))) ⌝ }
+{
+    let width = measures.width;
+    let height = measures.height;
+    if may_lower(width, height, measures.reach, side, grid, dots, table, at) {
+        return 0;
+    }
+    count
+}
+
 // The swap of a cell with the partner found, if one was.
 fn swap_cell(
     measures: Measures,
@@ -213,7 +255,7 @@ fn swap_cell(
 }
 
 // A swap scan with the offsets within reach and what they are worth: at each cell the partners in order, up to the
-// first that lowers the squared error.
+// first that lowers the squared error. Cells where none can are found by a quick test and passed over.
 fn swap_by(
     measures: Measures,
     psf: &[u8],
@@ -223,6 +265,8 @@ fn swap_by(
     rights: &[u8],
     worths: &[i32],
     count: usize,
+    side: usize,
+    grid: &[i32],
     dots: &mut [u8],
     table: &mut [i32],
     stats: Stats,
@@ -231,6 +275,7 @@ fn swap_by(
     requires { ⌜ HoldsKernel (measures .radius) (now psf) (now c) ⌝ }
     requires { ⌜ HoldsOffsets (measures .reach) (now downs) (now rights) count ⌝ }
     requires { ⌜ HoldsWorths (measures .radius) (now c) (now downs) (now rights) count (now worths) ⌝ }
+    requires { ⌜ GridFits (measures .radius) (now c) (measures .reach) side (now grid) ⌝ }
     ensures { λ r. ⌜ r ≡ swapScanned measures (now (psf .entry)) (now (gray .entry))
         (reference (now (dots .entry)) stats) .answer ⌝ }
     ensures { λ _. ⌜ now (dots .exit) ≡ swapScanned measures (now (psf .entry)) (now (gray .entry))
@@ -245,7 +290,20 @@ fn swap_by(
     };
     let mut at = Cell { row: 0, col: 0 };
     while at.row < measures.height {
-        let mut k: usize = 0;
+        let mut k = first_trial(
+            measures,
+            psf,
+            gray,
+            c,
+            downs,
+            rights,
+            count,
+            side,
+            grid,
+            dots,
+            table,
+            at,
+        );
         let found = 'partners: loop {
             if count <= k {
                 break 'partners k;
@@ -310,6 +368,9 @@ pub fn swap_all(
     let mut worths = [0i32; 168];
     let count = within_reach(measures.reach, &mut downs, &mut rights);
     weigh_offsets(measures.radius, c, &downs, &rights, count, &mut worths);
+    let side = side_of(measures.reach);
+    let mut grid = [0i32; 208];
+    lay_worths(measures.radius, c, measures.reach, side, &mut grid);
     swap_by(
         measures,
         psf,
@@ -319,6 +380,8 @@ pub fn swap_all(
         &rights,
         &worths,
         count,
+        side,
+        &grid,
         dots,
         table,
         stats,

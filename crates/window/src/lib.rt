@@ -24,14 +24,14 @@ fn add_run(table: &mut [i32], at: usize, c: &[i32], from: usize, n: usize, amoun
 }
 
 // x less the reach, or 0
-fn low(x: usize, reach: usize) -> usize
+pub fn low(x: usize, reach: usize) -> usize
     ensures { λ r. ⌜ r ≡ x - reach ⌝ }
 {
     if reach < x { x - reach } else { 0 }
 }
 
 // the end of what lies within the reach of x and below n
-fn high(x: usize, reach: usize, n: usize) -> usize
+pub fn high(x: usize, reach: usize, n: usize) -> usize
     requires { ⌜ (x < 256) × (reach ≤ 6) ⌝ }
     ensures { λ r. ⌜ r ≡ min (x + reach + 1) n ⌝ }
 {

@@ -1,5 +1,9 @@
--- `scans::swap_all` meets its contract: the local lists hold the offsets within reach and what they are worth.
+-- `scans::swap_all` meets its contract: the local lists hold the offsets within reach and what they are worth, in their
+-- order and in rows.
+use native.Mathlib.Nat.{mul-le-mul}
+use native.Mathlib.Omega.{arith}
 use borrow.Author.Needs.{needs}
+use Prim.Native.Nat.{_+_, _*_, _≤_}
 use Rattle.scans.proofs.swap_all.Statement.{statement}
 use Rattle.scans.proofs.swap_all.Tie as tie
 
@@ -24,6 +28,27 @@ slice-aggregate-weigh-offsets-3 c = search needs
 weigh-offsets-requires : tie.Need-weigh-offsets-requires
 weigh-offsets-requires c κs = search needs
 
+side-of-requires : tie.Need-side-of-requires
+side-of-requires c κs = search needs
+
+slice-aggregate-lay-worths : tie.Need-slice-aggregate-lay-worths
+slice-aggregate-lay-worths c = search needs
+
+lay-worths-requires : tie.Need-lay-worths-requires
+lay-worths-requires c κs =
+    let side = c .before in
+    let s = side .before .before .before .before .before .before .before .before .before .before .before .before .before
+    .before in
+    let reach : 2 * s .args .measures .reach + 1 ≤ 13 = omega (arith, s .pre .0 .reach-near) in (
+      (s .pre .0 .halftone .psf-fits .near, s .pre .1 .long, s .pre .1 .small),
+      (
+        s .pre .0 .reach-near,
+        side .side-of .ensures .0,
+        side .side-of .ensures .1,
+        mul-le-mul reach (side .side-of .ensures .1),
+      ),
+    )
+
 slice-aggregate-swap-by : tie.Need-slice-aggregate-swap-by
 slice-aggregate-swap-by c = search needs
 
@@ -33,12 +58,21 @@ slice-aggregate-swap-by-2 c = search needs
 slice-aggregate-swap-by-3 : tie.Need-slice-aggregate-swap-by-3
 slice-aggregate-swap-by-3 c = search needs
 
+slice-aggregate-swap-by-4 : tie.Need-slice-aggregate-swap-by-4
+slice-aggregate-swap-by-4 c = search needs
+
 swap-by-requires : tie.Need-swap-by-requires
 swap-by-requires c κs =
-    let worths = c .before .before .before .before .before .before in
+    let grid = c .before .before .before .before .before .before .before in
+    let worths = grid .before .before .before .before in
     let offsets = worths .before .before .before .before .before .before in
-    let s = offsets .before .before .before .before .before .before in
-    (s .pre .0, (s .pre .1, (offsets .within-reach .ensures, worths .weigh-offsets .ensures)))
+    let s = offsets .before .before .before .before .before .before in (
+      s .pre .0,
+      (
+        s .pre .1,
+        (offsets .within-reach .ensures, (worths .weigh-offsets .ensures, grid .lay-worths .ensures)),
+      ),
+    )
 
 same-length : tie.Need-same-length
 same-length c = search needs
@@ -60,9 +94,13 @@ swap-all-spec =
     slice-aggregate-weigh-offsets-2
     slice-aggregate-weigh-offsets-3
     weigh-offsets-requires
+    side-of-requires
+    slice-aggregate-lay-worths
+    lay-worths-requires
     slice-aggregate-swap-by
     slice-aggregate-swap-by-2
     slice-aggregate-swap-by-3
+    slice-aggregate-swap-by-4
     swap-by-requires
     same-length
     same-length-2

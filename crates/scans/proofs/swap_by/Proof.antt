@@ -32,7 +32,7 @@ either (inl a) f g = f a
 either (inr b) f g = g b
 
 abbrev Inv-partners : tie.InvT-partners
-Inv-partners measures psf gray c downs rights worths count dots table scan at k₀ k =
+Inv-partners measures psf gray c downs rights worths count side grid dots table scan at k₀ k =
     (k ≤ count)
     × (visit (targetFor measures psf gray) (swapsAfter (measures .width) (measures .height) (measures .reach) k) dots
     scan (cellAt (measures .width) (at .row) (at .col))
@@ -40,17 +40,17 @@ Inv-partners measures psf gray c downs rights worths count dots table scan at k�
     (cellAt (measures .width) (at .row) (at .col)))
 
 abbrev μ-partners : tie.MeasureT-partners
-μ-partners measures psf gray c downs rights worths count dots table scan at k₀ k = count - k
+μ-partners measures psf gray c downs rights worths count side grid dots table scan at k₀ k = count - k
 
 abbrev Inv-loop : tie.InvT-loop
-Inv-loop measures psf gray c downs rights worths count dots₀ table₀ scan₀ at₀ dots table scan at =
+Inv-loop measures psf gray c downs rights worths count side grid dots₀ table₀ scan₀ at₀ dots table scan at =
     Under measures psf gray (swaps (measures .width) (measures .height) (measures .reach))
     (reference dots₀ (scan₀ .stats)) (cellAt (measures .width) (at .row) (at .col)) dots table scan
     × (at .col < measures .width)
     × (cellAt (measures .width) (at .row) (at .col) ≤ measures .height * measures .width)
 
 abbrev μ-loop : tie.MeasureT-loop
-μ-loop measures psf gray c downs rights worths count dots₀ table₀ scan₀ at₀ dots table scan at =
+μ-loop measures psf gray c downs rights worths count side grid dots₀ table₀ scan₀ at₀ dots table scan at =
     measures .height * measures .width - cellAt (measures .width) (at .row) (at .col)
 
 loop-holds : tie.Need-loop-holds Inv-partners μ-partners Inv-loop μ-loop
@@ -81,8 +81,24 @@ module _ (l : tie.At-loop Inv-partners μ-partners Inv-loop μ-loop) where
       (l .loop .scan .stats)
   fits = under-fits (l .loop .inv .0) (swaps-lawful t (s .args .measures .reach)) sound (l .loop .inv .2)
 
+first-trial-requires : tie.Need-first-trial-requires Inv-partners μ-partners Inv-loop μ-loop
+first-trial-requires c κs =
+    let a = c .before .before in
+    let l = a .before .before .before in (
+      fits l .halftone,
+      (
+        fits l .state .table-is,
+        (
+          s l .pre .1 .0,
+          (s l .pre .1 .1 .0, (s l .pre .1 .1 .1 .1, (a .if1 .taken, l .loop .inv .1))),
+        ),
+      ),
+    )
+
 partners-holds : tie.Need-partners-holds Inv-partners μ-partners Inv-loop μ-loop
-partners-holds c = (omega arith, refl)
+partners-holds c =
+    let l = c .before .before .before .before .before .before in
+    (c .first-trial .ensures .0, c .first-trial .ensures .1 (l .loop .scan))
 
 -- before a trial
 module _ (a : tie.Else2 Inv-partners μ-partners Inv-loop μ-loop) where
@@ -90,7 +106,7 @@ module _ (a : tie.Else2 Inv-partners μ-partners Inv-loop μ-loop) where
   k = a .before .partners .k
 
   abbrev l2 : tie.At-loop Inv-partners μ-partners Inv-loop μ-loop
-  l2 = a .before .before .before .before .before
+  l2 = a .before .before .before .before .before .before .before .before
 
   short : k < s l2 .args .count
   short = omega (arith, a .if2 .left)
@@ -103,7 +119,7 @@ module _ (a : tie.Else2 Inv-partners μ-partners Inv-loop μ-loop) where
       ≡ worthAt (s l2 .args .measures .radius) (s l2 .args .c .now) (getD (s l2 .args .downs .now) k 0)
       (getD (s l2 .args .rights .now) k 0)
   worth-is =
-      let is = s l2 .pre .1 .1 .1 .at k short in
+      let is = s l2 .pre .1 .1 .1 .0 .at k short in
       of-small w32 kept
       (subst (λ (z : ℤ). natAbs z ≤ 534773760) (sym is)
       (worth-small (s l2 .args .measures .radius) (s l2 .args .c .now) (getD (s l2 .args .downs .now) k 0)
@@ -122,12 +138,14 @@ shared-slice-read-lowering-2 c =
     omega (arith, short a, s (l2 a) .pre .1 .1 .0 .count-small .1)
 
 mul-lowering : tie.Need-mul-lowering Inv-partners μ-partners Inv-loop μ-loop
-mul-lowering c = search needs
+mul-lowering c =
+    let a = c .before .before .before .before in
+    omega (arith, short a, s (l2 a) .pre .1 .1 .1 .0 .long, s (l2 a) .good .1 .1 .1 .1 .1 .1 .0)
 
 shared-slice-copy-out-lowering : tie.Need-shared-slice-copy-out-lowering Inv-partners μ-partners Inv-loop μ-loop
 shared-slice-copy-out-lowering c =
     let a = c .before .before .before .before in
-    omega (arith, short a, s (l2 a) .pre .1 .1 .1 .long)
+    omega (arith, short a, s (l2 a) .pre .1 .1 .1 .0 .long)
 
 lowering-requires : tie.Need-lowering-requires Inv-partners μ-partners Inv-loop μ-loop
 lowering-requires c κs =
@@ -139,7 +157,7 @@ lowering-requires c κs =
         (
           s l .pre .1 .0,
           (
-            (a .before .before .if1 .taken, l .loop .inv .1),
+            (a .before .before .before .before .before .if1 .taken, l .loop .inv .1),
             worth-is a,
           ),
         ),
@@ -147,7 +165,9 @@ lowering-requires c κs =
     )
 
 add-k : tie.Need-add-k Inv-partners μ-partners Inv-loop μ-loop
-add-k c = search needs
+add-k c =
+    let a = c .before .before .before .before .before .before .before in
+    omega (arith, short a, s (l2 a) .pre .1 .1 .1 .0 .long, s (l2 a) .good .1 .1 .1 .1 .1 .1 .0)
 
 partners-less : tie.Need-partners-less Inv-partners μ-partners Inv-loop μ-loop
 partners-less c = let a = c .before .before .before .before .before .before .before in omega (arith, short a)
@@ -166,7 +186,7 @@ partners-again c =
 -- the partner found, if one was
 module _ (j : tie.Joined2 Inv-partners μ-partners Inv-loop μ-loop) where
   abbrev l3 : tie.At-loop Inv-partners μ-partners Inv-loop μ-loop
-  l3 = j .before .before .before .before .before
+  l3 = j .before .before .before .before .before .before .before .before
 
   ends : (j .if2 .found ≤ s l3 .args .count)
       × (j .if2 .found < s l3 .args .count
@@ -210,7 +230,7 @@ swap-cell-requires c κs =
           s l .pre .1 .1 .0,
           (
             (
-              j .before .before .if1 .taken,
+              j .before .before .before .before .before .if1 .taken,
               l .loop .inv .1,
               under-few (l .loop .inv .0) (swaps-lawful (t l) (s l .args .measures .reach)) (sound l) (l .loop .inv .2),
             ),
@@ -224,12 +244,12 @@ next-requires : tie.Need-next-requires Inv-partners μ-partners Inv-loop μ-loop
 next-requires c κs =
     let j = c .before .before .before .before .before .before in
     let f = fits (l3 j) .halftone in
-    (omega (arith, j .before .before .if1 .taken, f .high .1), l3 j .loop .inv .1, f .wide .1)
+    (omega (arith, j .before .before .before .before .before .if1 .taken, f .high .1), l3 j .loop .inv .1, f .wide .1)
 
 loop-less : tie.Need-loop-less Inv-partners μ-partners Inv-loop μ-loop
 loop-less c =
     let j = c .before .before .before .before .before .before .before in
-    omega (arith, c .next .ensures .0, cell< (j .before .before .if1 .taken) (l3 j .loop .inv .1))
+    omega (arith, c .next .ensures .0, cell< (j .before .before .before .before .before .if1 .taken) (l3 j .loop .inv .1))
 
 loop-again : tie.Need-loop-again Inv-partners μ-partners Inv-loop μ-loop
 loop-again c =
@@ -241,7 +261,7 @@ loop-again c =
           (call .swap-cell .ensures .1 .1 ∙ ap (λ (x : Sweep). filteredErrors (t l) (x .after .dots)) (all j)))
           (sym (c .next .ensures .0)),
       c .next .ensures .1,
-      omega (arith, c .next .ensures .0, cell< (j .before .before .if1 .taken) (l .loop .inv .1)),
+      omega (arith, c .next .ensures .0, cell< (j .before .before .before .before .before .if1 .taken) (l .loop .inv .1)),
     )
 
 same-length : tie.Need-same-length Inv-partners μ-partners Inv-loop μ-loop
@@ -268,6 +288,7 @@ swap-by-spec =
     Inv-loop
     μ-loop
     loop-holds
+    first-trial-requires
     partners-holds
     shared-slice-read-lowering
     shared-slice-read-lowering-2

@@ -1,0 +1,2 @@
+-- What the quick test of a cell's partners rests on and shows.
+pub mod Grid
