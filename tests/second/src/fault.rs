@@ -1,0 +1,104 @@
+//! Single mistakes that the second implementation can be given, to see that the comparison finds each of them.
+
+/// One mistake.
+#[derive(Clone, Copy, PartialEq, Eq, Debug)]
+pub enum Fault {
+    /// the psf transposed in the autocorrelation
+    PsfTransposed,
+    /// the plate folded round at its edges
+    Folded,
+    /// an attempt accepted with a change of 0
+    TiesAccepted,
+    /// the swap's change without c(m - n)
+    OffsetDropped,
+    /// toggles off counted as toggles on
+    OnForOff,
+    /// row and column exchanged in the thresholds
+    ThresholdTransposed,
+    /// a dot also where 256 * gray equals 255 * threshold
+    ThresholdReached,
+    /// partners nearest first
+    PartnersReversed,
+    /// partners of one distance from the right to the left
+    PartnersMirrored,
+    /// a swap scan that goes on with the same cell after an accepted swap
+    CellNotLeft,
+    /// a settling without a toggle scan after the swaps
+    StopsAfterSwaps,
+    /// a settling that does not count its last scan
+    LastScanNotCounted,
+    /// a width and height of 257 taken
+    Size257Taken,
+    /// 6 judged before 5
+    SumBeforeLengths,
+    /// a psf sum of 1,025 taken
+    Sum1025Taken,
+    /// the dots judged at a start of any kind
+    DotsAlwaysJudged,
+    /// the reach judged for rows alone
+    ColumnBeyondReachTaken,
+    /// 9 not drawn for a cell with itself
+    SameCellTaken,
+    /// 21 judged before 20
+    LedgerBeforeTable,
+    /// the last table entry not judged
+    LastEntryNotJudged,
+    /// dots at the start not limited by the cells
+    StartDotsNotLimited,
+    /// E at the start not limited
+    StartErrorNotLimited,
+    /// 255 taken for 254 in the ledger's last condition
+    FallBy254,
+    /// 22 judged before 20 and 21
+    EqualDotsFirst,
+    /// a sheet's number with a leading zero taken
+    LeadingZeroTaken,
+    /// a number outside its field refused at its end
+    NumberRefusedAtEnd,
+    /// 12 last at an equal place
+    RoomLast,
+    /// the room for dots judged with every start
+    DotsRoomAlwaysJudged,
+    /// a reader that writes the dots also with start 0 and 1
+    DotsTouched,
+    /// a writer that keeps the kind of start
+    StartKept,
+    /// a writer that refuses an output of just the right length
+    ExactLengthRefused,
+}
+
+impl Fault {
+    pub const ALL: [Fault; 31] = [
+        Fault::PsfTransposed,
+        Fault::Folded,
+        Fault::TiesAccepted,
+        Fault::OffsetDropped,
+        Fault::OnForOff,
+        Fault::ThresholdTransposed,
+        Fault::ThresholdReached,
+        Fault::PartnersReversed,
+        Fault::PartnersMirrored,
+        Fault::CellNotLeft,
+        Fault::StopsAfterSwaps,
+        Fault::LastScanNotCounted,
+        Fault::Size257Taken,
+        Fault::SumBeforeLengths,
+        Fault::Sum1025Taken,
+        Fault::DotsAlwaysJudged,
+        Fault::ColumnBeyondReachTaken,
+        Fault::SameCellTaken,
+        Fault::LedgerBeforeTable,
+        Fault::LastEntryNotJudged,
+        Fault::StartDotsNotLimited,
+        Fault::StartErrorNotLimited,
+        Fault::FallBy254,
+        Fault::EqualDotsFirst,
+        Fault::LeadingZeroTaken,
+        Fault::NumberRefusedAtEnd,
+        Fault::RoomLast,
+        Fault::DotsRoomAlwaysJudged,
+        Fault::DotsTouched,
+        Fault::StartKept,
+        Fault::ExactLengthRefused,
+    ];
+}
