@@ -1,5 +1,7 @@
 //! Single mistakes that the second implementation can be given, to see that the comparison finds each of them.
 
+use crate::plain::ORDER;
+
 /// One mistake.
 #[derive(Clone, Copy, PartialEq, Eq, Debug)]
 pub enum Fault {
@@ -29,8 +31,6 @@ pub enum Fault {
     LastScanNotCounted,
     /// a width and height of 257 taken
     Size257Taken,
-    /// 6 judged before 5
-    SumBeforeLengths,
     /// a psf sum of 1,025 taken
     Sum1025Taken,
     /// the dots judged at a start of any kind
@@ -39,18 +39,16 @@ pub enum Fault {
     ColumnBeyondReachTaken,
     /// 9 not drawn for a cell with itself
     SameCellTaken,
-    /// 21 judged before 20
-    LedgerBeforeTable,
     /// the last table entry not judged
     LastEntryNotJudged,
     /// dots at the start not limited by the cells
     StartDotsNotLimited,
     /// E at the start not limited
     StartErrorNotLimited,
-    /// 255 taken for 254 in the ledger's last condition
+    /// a count below 0 taken
+    NegativeCountTaken,
+    /// 254 for 255 in the ledger's last condition
     FallBy254,
-    /// 22 judged before 20 and 21
-    EqualDotsFirst,
     /// a sheet's number with a leading zero taken
     LeadingZeroTaken,
     /// a number outside its field refused at its end
@@ -65,40 +63,46 @@ pub enum Fault {
     StartKept,
     /// a writer that refuses an output of just the right length
     ExactLengthRefused,
+    /// two neighbours in the order of the refusals 1 to 9 and 20 to 22 exchanged, this one and the next
+    Exchanged(usize),
 }
 
 impl Fault {
-    pub const ALL: [Fault; 31] = [
-        Fault::PsfTransposed,
-        Fault::Folded,
-        Fault::TiesAccepted,
-        Fault::OffsetDropped,
-        Fault::OnForOff,
-        Fault::ThresholdTransposed,
-        Fault::ThresholdReached,
-        Fault::PartnersReversed,
-        Fault::PartnersMirrored,
-        Fault::CellNotLeft,
-        Fault::StopsAfterSwaps,
-        Fault::LastScanNotCounted,
-        Fault::Size257Taken,
-        Fault::SumBeforeLengths,
-        Fault::Sum1025Taken,
-        Fault::DotsAlwaysJudged,
-        Fault::ColumnBeyondReachTaken,
-        Fault::SameCellTaken,
-        Fault::LedgerBeforeTable,
-        Fault::LastEntryNotJudged,
-        Fault::StartDotsNotLimited,
-        Fault::StartErrorNotLimited,
-        Fault::FallBy254,
-        Fault::EqualDotsFirst,
-        Fault::LeadingZeroTaken,
-        Fault::NumberRefusedAtEnd,
-        Fault::RoomLast,
-        Fault::DotsRoomAlwaysJudged,
-        Fault::DotsTouched,
-        Fault::StartKept,
-        Fault::ExactLengthRefused,
-    ];
+    /// Every mistake.
+    pub fn all() -> Vec<Fault> {
+        let exchanged = (0..ORDER.len() - 1).map(Fault::Exchanged);
+        SINGLE.into_iter().chain(exchanged).collect()
+    }
 }
+
+const SINGLE: [Fault; 29] = [
+    Fault::PsfTransposed,
+    Fault::Folded,
+    Fault::TiesAccepted,
+    Fault::OffsetDropped,
+    Fault::OnForOff,
+    Fault::ThresholdTransposed,
+    Fault::ThresholdReached,
+    Fault::PartnersReversed,
+    Fault::PartnersMirrored,
+    Fault::CellNotLeft,
+    Fault::StopsAfterSwaps,
+    Fault::LastScanNotCounted,
+    Fault::Size257Taken,
+    Fault::Sum1025Taken,
+    Fault::DotsAlwaysJudged,
+    Fault::ColumnBeyondReachTaken,
+    Fault::SameCellTaken,
+    Fault::LastEntryNotJudged,
+    Fault::StartDotsNotLimited,
+    Fault::StartErrorNotLimited,
+    Fault::NegativeCountTaken,
+    Fault::FallBy254,
+    Fault::LeadingZeroTaken,
+    Fault::NumberRefusedAtEnd,
+    Fault::RoomLast,
+    Fault::DotsRoomAlwaysJudged,
+    Fault::DotsTouched,
+    Fault::StartKept,
+    Fault::ExactLengthRefused,
+];

@@ -1,9 +1,23 @@
 //! Random input: numbers, plates of all shapes with psf, gray, dots, table and stats, single damages to what a call is
 //! handed, sheets and single damages to a sheet.
 
-use crate::handed::{Call, Handed, ERROR, MEASURES, OFF, ON, START_DOTS, START_ERROR, STATS, SWAPS};
+use crate::handed::{Call, Cell, Handed, ERROR, MEASURES, OFF, ON, START_DOTS, START_ERROR, STATS, SWAPS};
 use crate::plain::{Plate, MAX_COUNT, MAX_ERROR};
 use crate::sheet;
+use std::cmp::Reverse;
+use std::time::{SystemTime, UNIX_EPOCH};
+
+/// The number in an environment variable, if there is one.
+pub fn number_from(name: &str) -> Option<u64> {
+    let value = std::env::var(name).ok()?;
+    Some(value.parse().unwrap_or_else(|_| panic!("{name} is no number: {value}")))
+}
+
+/// The seed of a run: PLATEMAKER_SEED, else one from the clock.
+pub fn seed() -> u64 {
+    let clock = || SystemTime::now().duration_since(UNIX_EPOCH).unwrap().as_nanos() as u64;
+    number_from("PLATEMAKER_SEED").unwrap_or_else(clock)
+}
 
 /// The generator splitmix64.
 pub struct Random {
@@ -15,7 +29,7 @@ impl Random {
         Random { state: seed }
     }
 
-    pub fn next(&mut self) -> u64 {
+    pub fn any(&mut self) -> u64 {
         self.state = self.state.wrapping_add(0x9E37_79B9_7F4A_7C15);
         let mut z = self.state;
         z = (z ^ z >> 30).wrapping_mul(0xBF58_476D_1CE4_E5B9);
@@ -25,7 +39,7 @@ impl Random {
 
     /// A number from 0 to `limit` - 1.
     pub fn below(&mut self, limit: usize) -> usize {
-        (self.next() % limit as u64) as usize
+        (self.any() % limit as u64) as usize
     }
 
     /// A number from `least` to `most`.
@@ -43,20 +57,20 @@ impl Random {
     }
 
     fn bytes(&mut self, length: usize) -> Vec<u8> {
-        (0..length).map(|_| self.next() as u8).collect()
+        (0..length).map(|_| self.any() as u8).collect()
     }
 }
 
 /// Width and height: 1 by 1, one row, one column, small ones, up to 24 by 24, 256 wide, 256 high.
 pub fn size(random: &mut Random) -> (usize, usize) {
-    match random.below(200) {
-        0..=14 => (1, 1),
-        15..=39 => (random.within(1, 24), 1),
-        40..=64 => (1, random.within(1, 24)),
-        65..=169 => (random.within(1, 6), random.within(1, 6)),
-        170..=193 => (random.within(1, 12), random.within(1, 12)),
-        194..=195 => (random.within(13, 24), random.within(13, 24)),
-        196..=197 => (256, random.within(1, 2)),
+    match random.below(100) {
+        0..=4 => (1, 1),
+        5..=14 => (random.within(1, 24), 1),
+        15..=24 => (1, random.within(1, 24)),
+        25..=74 => (random.within(1, 6), random.within(1, 6)),
+        75..=95 => (random.within(1, 12), random.within(1, 12)),
+        96..=97 => (random.within(13, 24), random.within(13, 24)),
+        98 => (256, random.within(1, 2)),
         _ => (random.within(1, 2), 256),
     }
 }
@@ -72,9 +86,7 @@ pub fn psf(random: &mut Random, radius: usize) -> Vec<u8> {
             psf[random.below(entries)] = random.within(1, 255) as u8;
             psf
         }),
-        2 | 3 => (0..entries)
-            .map(|at| (bell(at / side) * bell(at % side)) as u8)
-            .collect(),
+        2 | 3 => (0..entries).map(|at| (bell(at / side) * bell(at % side)) as u8).collect(),
         4 => {
             let sum = random.within(1, 3 * entries);
             psf_of_sum(random, entries, sum)
@@ -99,10 +111,10 @@ fn psf_of_sum(random: &mut Random, entries: usize, sum: usize) -> Vec<u8> {
 
 /// Gray: any, one value for all, black and paper, or near the middle.
 fn gray(random: &mut Random, cells: usize) -> Vec<u8> {
-    let one = random.next() as u8;
+    let one = random.any() as u8;
     let kind = random.below(4);
     let cell = |_| match kind {
-        0 => random.next() as u8,
+        0 => random.any() as u8,
         1 => one,
         2 => random.pick(&[0, 255]),
         _ => random.pick(&[126, 127, 128, 129]),
@@ -126,35 +138,56 @@ fn dots(random: &mut Random, cells: usize) -> Vec<u8> {
 /// writes holds anything.
 pub fn handed(random: &mut Random, (width, height): (usize, usize)) -> Handed {
     let radius = random.below(4);
-    let mut handed = Handed {
-        width,
-        height,
-        radius,
-        ..Handed::default()
-    };
-    handed.reach = random.below(7);
+    let mut handed = Handed { width, height, radius, ..Handed::default() };
+    handed.reach = random.pick(&[0, 1, 1, 2, 2, 3, 3, 4, 5, 6, 6]);
     handed.start = random.below(3);
     handed.psf = psf(random, radius);
     handed.gray = gray(random, width * height);
     handed.dots = dots(random, width * height);
-    let plate = Plate::new(&handed, None);
-    handed.table = plate.filtered_error().into_iter().map(|t| t as i32).collect();
-    handed.stats = stats(random, &handed);
     (handed.row, handed.col) = (random.below(height), random.below(width));
-    (handed.row2, handed.col2) = partner(random, &handed);
-    handed.autocorrelation = (0..(4 * radius + 1).pow(2)).map(|_| random.next() as i32).collect();
-    (handed.error, handed.change) = (random.next() as i64, random.next() as i64);
-    (handed.changes, handed.scans) = (random.next(), random.next());
-    (handed.length, handed.offset) = (random.next() as usize, random.next() as usize);
+    (handed.row2, handed.col2) = partner(random, &handed, true);
+    if radius > 0 && handed.cells() > 1 && random.one_in(8) {
+        tie(&mut handed);
+    }
+    handed.table = Plate::new(&handed, None).filtered_error().into_iter().map(|t| t as i32).collect();
+    handed.stats = stats(random, &handed);
+    handed.autocorrelation = (0..(4 * radius + 1).pow(2)).map(|_| random.any() as i32).collect();
+    (handed.error, handed.change) = (random.any() as i64, random.any() as i64);
+    (handed.changes, handed.scans) = (random.any(), random.any());
+    (handed.length, handed.offset) = (random.any() as usize, random.any() as usize);
     handed
+}
+
+/// Takes a psf of two ones side by side, and grays with which a toggle of the named cell changes nothing, if there are any.
+fn tie(handed: &mut Handed) {
+    let (side, middle) = (2 * handed.radius + 1, handed.psf.len() / 2);
+    let (in_row, cell) = (handed.width > 1, (handed.row, handed.col));
+    handed.psf.fill(0);
+    (handed.psf[middle], handed.psf[middle + if in_row { 1 } else { side }]) = (1, 1);
+    let at = handed.row * handed.width + handed.col;
+    let beside = if at > 0 { at - 1 } else { at + 1 };
+    for _ in 0..2 {
+        handed.gray[beside] ^= 1;
+        // the change rises or falls evenly with the gray
+        let [paper, next] = [0, 1].map(|gray| {
+            handed.gray[at] = gray;
+            Plate::new(handed, None).change(&[cell])
+        });
+        let tied = u8::try_from(paper / (paper - next));
+        if let (0, Ok(gray)) = (paper % (paper - next), tied) {
+            handed.gray[at] = gray;
+            return;
+        }
+    }
+}
+
+fn dot_total(handed: &Handed) -> i64 {
+    handed.dots.iter().map(|&dot| i64::from(dot)).sum()
 }
 
 /// Valid stats for the dots of this plate: some changes on the way to it, and the fall of E that they need.
 fn stats(random: &mut Random, handed: &Handed) -> Vec<i64> {
-    let (cells, count) = (
-        handed.cells() as i64,
-        handed.dots.iter().filter(|&&dot| dot == 1).count() as i64,
-    );
+    let (cells, count) = (handed.cells() as i64, dot_total(handed));
     let error = Plate::new(handed, None).sum_of_squares();
     let mut stats = vec![error, error, count, 0, 0, 0];
     if random.one_in(3) {
@@ -171,127 +204,125 @@ fn stats(random: &mut Random, handed: &Handed) -> Vec<i64> {
     stats
 }
 
-/// A second cell for a swap: mostly within the reach, on the plate, and of the other dot.
-fn partner(random: &mut Random, handed: &Handed) -> (usize, usize) {
+/// A second cell for a swap, on the plate and within the reach, and where one is soon found with a dot that differs from
+/// that of the first cell, or with an equal one.
+fn partner(random: &mut Random, handed: &Handed, differs: bool) -> Cell {
     let mut near = |from: usize, size: usize| {
         let least = from.saturating_sub(handed.reach);
         random.within(least, (from + handed.reach).min(size - 1))
     };
-    let mut cell = (handed.row, handed.col);
-    for _ in 0..8 {
-        cell = (near(handed.row, handed.height), near(handed.col, handed.width));
-        let dot = |(row, col): (usize, usize)| handed.dots[row * handed.width + col];
-        if dot(cell) != dot((handed.row, handed.col)) {
-            break;
-        }
-    }
-    cell
+    let dot = |(row, col): Cell| handed.dots[row * handed.width + col];
+    let first = (handed.row, handed.col);
+    let cells = (0..8).map(|_| (near(first.0, handed.height), near(first.1, handed.width)));
+    let others: Vec<Cell> = cells.filter(|&cell| cell != first).collect();
+    let wanted = others.iter().find(|&&cell| (dot(cell) != dot(first)) == differs);
+    *wanted.or(others.first()).unwrap_or(&first)
 }
 
-/// Names other cells in the same plate: for the next attempt of a list.
+/// Names cells of the plate, sometimes cells that an attempt refuses.
 pub fn name_cells(random: &mut Random, handed: &mut Handed) {
     (handed.row, handed.col) = (random.below(handed.height), random.below(handed.width));
-    (handed.row2, handed.col2) = partner(random, handed);
-    if random.one_in(10) {
-        misname_cells(random, handed);
+    let differs = !random.one_in(8);
+    (handed.row2, handed.col2) = partner(random, handed, differs);
+    if random.one_in(16) {
+        name_off_plate(random, handed);
+    }
+    if random.one_in(16) {
+        name_beyond_reach(random, handed);
     }
 }
 
-/// What a call can be handed, with none, one or two damages.
+/// What a call can be handed, with none, one or two damages, each aimed at one refusal of this call. Two are often aimed at
+/// neighbours in the order of refusals.
 pub fn damaged(random: &mut Random, call: Call) -> Handed {
     let size = size(random);
     let mut handed = handed(random, size);
     if call == Call::Start {
-        handed.table.fill_with(|| random.next() as i32);
-        handed.stats.fill_with(|| random.next() as i64);
+        handed.table.fill_with(|| random.any() as i32);
+        handed.stats.fill_with(|| random.any() as i64);
         if handed.start < 2 {
             handed.dots = random.bytes(handed.dots.len());
         }
     }
-    let damages = random.pick(&[0, 0, 1, 1, 1, 1, 2, 2]);
-    (0..damages).for_each(|_| damage(random, call, &mut handed));
+    if call.is_later() && random.one_in(6) {
+        misstate(random, &mut handed);
+        let differs = !random.one_in(3);
+        (handed.row2, handed.col2) = partner(random, &handed, differs);
+        return handed;
+    }
+    let refusals = call.refusals();
+    let first = random.below(refusals.len());
+    let second = if random.one_in(2) { random.below(refusals.len()) } else { (first + 1) % refusals.len() };
+    let aims = random.pick(&[0, 0, 0, 1, 1, 2, 2, 2]);
+    // the later number first: it needs what the earlier one takes away
+    let mut aimed = [refusals[first], refusals[second]][..aims].to_vec();
+    aimed.sort_by_key(|&number| Reverse(number));
+    aimed.dedup();
+    aimed.into_iter().for_each(|number| damage(random, call, number, &mut handed));
     handed
 }
 
-/// Damages one thing that this call is handed.
-fn damage(random: &mut Random, call: Call, handed: &mut Handed) {
-    let last = match call {
-        Call::TrySwap | Call::TryToggle => 11,
-        _ if call.is_later() => 9,
-        _ if call.is_measured() => 7,
-        _ => 5,
-    };
-    const HUGE: [usize; 4] = [usize::MAX, 1 << 32, 1 << 63, 65_537];
-    match random.below(last) {
-        0 if call.is_sized() => outsize(random, handed),
-        0 | 1 => {
-            handed.radius = random.pick(&[4, 4, 4, 5, HUGE[0], HUGE[1], HUGE[2], 1 << 32 | handed.radius]);
-            if handed.radius < 6 {
-                let side = 2 * handed.radius + 1;
-                handed.psf = psf_of_sum(random, side * side, 1024);
-                handed.autocorrelation = vec![0; (2 * side - 1).pow(2)];
-            }
+/// Sizes far above every limit, one of them a small number to whoever keeps 32 bits.
+fn huge(random: &mut Random, small: usize) -> usize {
+    random.pick(&[usize::MAX, 1 << 32, 1 << 63, 65_537, 1 << 32 | small, 1 << 16 | small])
+}
+
+/// One damage that mostly makes a call draw this number.
+fn damage(random: &mut Random, call: Call, number: u32, handed: &mut Handed) {
+    let far = random.one_in(4);
+    match number {
+        1 => outsize(random, handed),
+        2 if far => handed.radius = huge(random, handed.radius),
+        2 => {
+            handed.radius = 4;
+            handed.psf = psf_of_sum(random, 81, 1024);
+            handed.autocorrelation.resize(289, 5);
         }
-        2 => change_length(random, call, handed),
-        3 => {
-            let sums = [0, 1025.min(255 * handed.psf.len()), 255 * handed.psf.len()];
-            let sum = random.pick(&sums);
-            handed.psf = psf_of_sum(random, handed.psf.len().max(1), sum);
+        3 => handed.reach = if far { huge(random, handed.reach) } else { 7 },
+        4 => handed.start = if far { huge(random, handed.start) } else { 3 },
+        5 => change_length(random, call, handed),
+        6 => {
+            let most = 255 * handed.psf.len();
+            let sum = random.pick(&[0, 1025.min(most), most]);
+            handed.psf = psf_of_sum(random, handed.psf.len(), sum);
         }
-        4 => {
-            let at = random.below(handed.dots.len().max(1));
-            if let Some(dot) = handed.dots.get_mut(at) {
-                *dot = random.pick(&[2, 3, 128, 254, 255]);
-            }
-        }
-        5 => handed.reach = random.pick(&[7, 7, 8, HUGE[0], HUGE[1], HUGE[2]]),
-        6 => handed.start = random.pick(&[3, 3, 4, HUGE[0], HUGE[1], HUGE[2], 1 << 32 | 1]),
         7 => {
-            let (any, last) = (
-                random.below(handed.table.len().max(1)),
-                handed.table.len().saturating_sub(1),
-            );
-            let at = random.pick(&[0, last, any]);
-            if let Some(entry) = handed.table.get_mut(at) {
-                *entry = entry.wrapping_add(random.pick(&[1, -1, 1 << 8, i32::MIN]));
-            }
+            handed.start = if random.one_in(2) { 2 } else { handed.start };
+            let at = random.below(handed.dots.len());
+            handed.dots[at] = random.pick(&[2, 3, 128, 254, 255]);
         }
-        8 => misstate(random, handed),
-        _ => misname_cells(random, handed),
+        8 => name_off_plate(random, handed),
+        9 => name_beyond_reach(random, handed),
+        20 => {
+            let any = random.below(handed.table.len());
+            let at = random.pick(&[0, any, handed.table.len() - 1]);
+            handed.table[at] = handed.table[at].wrapping_add(random.pick(&[1, -1, 256, i32::MIN]));
+        }
+        21 => misstate(random, handed),
+        22 => (handed.row2, handed.col2) = partner(random, handed, false),
+        _ => {}
     }
 }
 
 /// A width or height that is out of range; with 257 also slices that fit it.
 fn outsize(random: &mut Random, handed: &mut Handed) {
-    let other = if random.one_in(2) {
-        257
-    } else {
-        random.pick(&[0, 258, 65_537, 1 << 32, usize::MAX])
+    let mut other = |size: usize| match random.below(4) {
+        0 => huge(random, size),
+        1 => random.pick(&[0, 258]),
+        _ => 257,
     };
-    if random.one_in(2) {
-        handed.width = if random.one_in(8) {
-            1 << 32 | handed.width
-        } else {
-            other
-        };
+    if handed.width < handed.height {
+        handed.height = other(handed.height);
     } else {
-        handed.height = if random.one_in(8) {
-            1 << 32 | handed.height
-        } else {
-            other
-        };
+        handed.width = other(handed.width);
     }
-    let fits = handed.radius < 6 && handed.psf.len() == (2 * handed.radius + 1).pow(2);
-    if fits && handed.width.min(handed.height) < 8 && handed.width.max(handed.height) == 257 {
+    let psf_fits = handed.radius < 5 && handed.psf.len() == (2 * handed.radius + 1).pow(2);
+    if handed.width.max(handed.height) == 257 && psf_fits {
         let cells = handed.cells();
-        (handed.gray, handed.dots, handed.table) = (vec![9; cells], vec![0; cells], vec![0; cells]);
-        handed.table = Plate::new(handed, None)
-            .filtered_error()
-            .into_iter()
-            .map(|t| t as i32)
-            .collect();
-        let error = Plate::new(handed, None).sum_of_squares();
-        handed.stats = vec![error, error, 0, 0, 0, 0];
+        (handed.gray, handed.dots) = (vec![9; cells], vec![0; cells]);
+        let plate = Plate::new(handed, None);
+        handed.table = plate.filtered_error().into_iter().map(|t| t as i32).collect();
+        handed.stats = vec![plate.sum_of_squares(), plate.sum_of_squares(), 0, 0, 0, 0];
     }
 }
 
@@ -299,16 +330,16 @@ fn outsize(random: &mut Random, handed: &mut Handed) {
 fn change_length(random: &mut Random, call: Call, handed: &mut Handed) {
     fn resize<T: Copy + From<u8>>(random: &mut Random, buffer: &mut Vec<T>) {
         let length = buffer.len();
-        let others = [0, length.saturating_sub(1), length + 1, 2 * length, length + 256];
+        let others = [0, length - 1, length + 1, 2 * length, length + 256];
         buffer.resize(random.pick(&others), T::from(1));
     }
-    let slices = match call {
-        Call::Autocorrelation => [0, 5, 0, 5, 5],
-        Call::SquaredError | Call::WriteSheet => [0, 1, 2, 1, 2],
-        Call::FilteredError => [0, 1, 2, 3, 3],
-        _ => [0, 1, 2, 3, 4],
+    let slices: &[_] = match call {
+        Call::Autocorrelation => &[0, 5],
+        Call::SquaredError | Call::WriteSheet => &[0, 1, 2],
+        Call::FilteredError => &[0, 1, 2, 3],
+        _ => &[0, 1, 2, 3, 4],
     };
-    match random.pick(&slices) {
+    match random.pick(slices) {
         0 => resize(random, &mut handed.psf),
         1 => resize(random, &mut handed.gray),
         2 => resize(random, &mut handed.dots),
@@ -318,70 +349,46 @@ fn change_length(random: &mut Random, call: Call, handed: &mut Handed) {
     }
 }
 
-/// One figure of the stats off by one, at a limit, above it or below 0; or another ledger of the same dots.
+/// One figure of the stats off by one, at a limit, above it or below 0; or a whole ledger at or just beyond a limit.
 fn misstate(random: &mut Random, handed: &mut Handed) {
-    if handed.stats.len() != STATS {
-        return;
-    }
-    let cells = handed.gray.len() as i64;
-    let at = random.below(STATS);
-    let figure = &mut handed.stats[at];
-    let near = [
-        *figure - 1,
-        *figure + 1,
-        *figure - 1,
-        *figure + 1,
-        -1,
-        i64::MIN,
-        i64::MAX,
-    ];
-    let limits = match at {
-        START_ERROR | ERROR => [MAX_ERROR, MAX_ERROR + 1, MAX_ERROR],
-        START_DOTS => [cells, cells + 1, 0],
-        _ => [MAX_COUNT, MAX_COUNT + 1, 1 << 62],
+    let (cells, count) = (handed.cells() as i64, dot_total(handed));
+    let (at, beyond) = (random.below(STATS), random.below(2) as i64);
+    let (error, figure) = (handed.stats[ERROR], handed.stats[at]);
+    let limit = match at {
+        START_ERROR | ERROR => MAX_ERROR,
+        START_DOTS => cells,
+        _ => MAX_COUNT,
     };
-    *figure = if random.one_in(3) {
-        random.pick(&limits)
-    } else {
-        random.pick(&near)
-    };
-    if random.one_in(3) {
-        limits_in_step(random, handed, cells);
-    }
-}
-
-/// Stats with one figure just above its limit and the others in step with it.
-fn limits_in_step(random: &mut Random, handed: &mut Handed, cells: i64) {
-    let count = handed.dots.iter().filter(|&&dot| dot == 1).count() as i64;
-    let error = handed.stats[ERROR];
-    let above = cells + random.pick(&[0, 1]);
-    let off = above - count;
-    handed.stats = match random.below(3) {
-        0 => vec![MAX_ERROR + random.pick(&[0, 1]), error, count, 0, 0, 0],
-        1 => vec![MAX_ERROR, error, above, 0, off, 0],
-        _ => vec![
-            error.saturating_add(255 * 3 - random.pick(&[0, 1])),
-            error,
-            count,
-            1,
-            1,
-            1,
-        ],
-    };
-}
-
-/// Cells off the plate, a swap of a cell with itself, or beyond the reach.
-fn misname_cells(random: &mut Random, handed: &mut Handed) {
-    let far = |random: &mut Random, size: usize| random.pick(&[size, size, size.wrapping_add(1), usize::MAX, 1 << 32]);
     match random.below(8) {
-        0 => handed.row = far(random, handed.height),
-        1 => handed.col = far(random, handed.width),
-        2 => handed.row2 = far(random, handed.height),
-        3 => handed.col2 = far(random, handed.width),
-        4 => (handed.row2, handed.col2) = (handed.row, handed.col),
-        5 => (handed.row, handed.row2) = (0, handed.reach.wrapping_add(1)),
-        6 => (handed.col, handed.col2) = (handed.reach.wrapping_add(1), 0),
-        _ => (handed.row2, handed.col2) = (random.below(24), random.below(24)),
+        0 => handed.stats[at] = figure - 1,
+        1 => handed.stats[at] = figure + 1,
+        2 => handed.stats[at] = random.pick(&[limit, limit + 1, -1, i64::MIN, i64::MAX, 1 << 62]),
+        3 => handed.stats[random.within(ON, SWAPS)] = -1,
+        4 => handed.stats = vec![MAX_ERROR + beyond, error, count, 0, 0, 0],
+        5 => handed.stats = vec![MAX_ERROR, error, cells + beyond, 0, cells + beyond - count, 0],
+        6 => handed.stats = vec![MAX_ERROR, error, -beyond, count + beyond, 0, 0],
+        _ => handed.stats = vec![error + 255 * 3 - beyond, error, count, 1, 1, 1],
+    }
+}
+
+/// A cell off the plate.
+fn name_off_plate(random: &mut Random, handed: &mut Handed) {
+    let mut off = |size: usize| random.pick(&[size, size, size + 1, usize::MAX, 1 << 32]);
+    let (row, col) = (off(handed.height), off(handed.width));
+    match random.below(4) {
+        0 => handed.row = row,
+        1 => handed.col = col,
+        2 => handed.row2 = row,
+        _ => handed.col2 = col,
+    }
+}
+
+/// A swap of a cell with itself, or with one just beyond the reach.
+fn name_beyond_reach(random: &mut Random, handed: &mut Handed) {
+    match random.below(3) {
+        0 => (handed.row2, handed.col2) = (handed.row, handed.col),
+        1 => (handed.row, handed.row2) = (0, handed.reach + 1),
+        _ => (handed.col, handed.col2) = (handed.reach + 1, 0),
     }
 }
 
@@ -407,18 +414,18 @@ pub fn lend_for_reading(random: &mut Random, handed: &mut Handed) {
 /// The bytes that a damage puts into a sheet.
 const BYTES: [u8; 14] = *b"0129 \npgdx\r\x00\xff:";
 
-/// Damages a sheet at one random place.
+/// Damages a sheet at one random place, now and then the start of line 3.
 pub fn damage_sheet(random: &mut Random, sheet: &mut Vec<u8>) {
-    if sheet.is_empty() {
-        return;
+    let third = sheet.windows(2).position(|pair| pair == b"\np").map_or(0, |at| at + 1);
+    let at = if random.one_in(6) { third } else { random.below(sheet.len() + 1) };
+    if at == sheet.len() {
+        return sheet.push(random.pick(&BYTES));
     }
-    let at = random.below(sheet.len());
-    match random.below(6) {
+    match random.below(5) {
         0 => sheet[at] = random.pick(&BYTES),
         1 => sheet.insert(at, random.pick(&BYTES)),
         2 => drop(sheet.remove(at)),
         3 => sheet.truncate(at),
-        4 => sheet.push(random.pick(&BYTES)),
         _ => change_number(random, sheet),
     }
 }
@@ -445,17 +452,12 @@ fn change_number(random: &mut Random, sheet: &mut Vec<u8>) {
         b"340282366920938463463374607431768211457",
         b"0x",
     ];
-    let starts: Vec<usize> = (1..sheet.len())
-        .filter(|&at| sheet[at].is_ascii_digit() && !sheet[at - 1].is_ascii_digit())
-        .collect();
+    let starts: Vec<usize> =
+        (1..sheet.len()).filter(|&at| sheet[at].is_ascii_digit() && !sheet[at - 1].is_ascii_digit()).collect();
     if starts.is_empty() {
         return;
     }
-    let most = if random.one_in(2) {
-        starts.len().min(MEASURES)
-    } else {
-        starts.len()
-    };
+    let most = if random.one_in(2) { starts.len().min(MEASURES) } else { starts.len() };
     let start = starts[random.below(most)];
     let digits = sheet[start..].iter().take_while(|byte| byte.is_ascii_digit()).count();
     sheet.splice(start..start + digits, random.pick(&NUMBERS).iter().copied());

@@ -1,5 +1,8 @@
 //! The calls of the header, and one record of everything that a call can be handed and can write.
 
+/// A row and a column.
+pub type Cell = (usize, usize);
+
 /// The calls, in the header's order.
 #[derive(Clone, Copy, PartialEq, Eq, Debug)]
 pub enum Call {
@@ -45,6 +48,16 @@ impl Call {
     /// Whether the call is handed all five measures.
     pub fn is_measured(self) -> bool {
         self.is_later() || matches!(self, Call::Start | Call::WriteSheet)
+    }
+
+    /// The cells that an attempt names.
+    pub fn named(self, handed: &Handed) -> Vec<Cell> {
+        let cells = [(handed.row, handed.col), (handed.row2, handed.col2)];
+        match self {
+            Call::TryToggle => cells[..1].to_vec(),
+            Call::TrySwap => cells.to_vec(),
+            _ => Vec::new(),
+        }
     }
 
     /// Every refusal that the call draws.
@@ -107,12 +120,26 @@ impl Handed {
         self.width * self.height
     }
 
-    /// The cells that a swap attempt names; a toggle attempt names the first.
-    pub fn named(&self) -> [(usize, usize); 2] {
-        [(self.row, self.col), (self.row2, self.col2)]
-    }
-
+    /// The accepted changes that the stats count.
     pub fn accepted(&self) -> i64 {
         self.stats[ON] + self.stats[OFF] + self.stats[SWAPS]
+    }
+
+    /// The values that differ from another record's, named by field and entry: at most 20 of them.
+    pub fn differences(&self, other: &Handed) -> String {
+        let (own, others) = (format!("{self:#?}"), format!("{other:#?}"));
+        let (mut field, mut first) = ("", 0);
+        let mut differences = Vec::new();
+        for (line, (a, b)) in own.lines().zip(others.lines()).enumerate() {
+            if let Some(name) = a.strip_prefix("    ").filter(|name| !name.starts_with([' ', ']'])) {
+                (field, first) = (name.split(':').next().unwrap(), line + 1);
+            }
+            if a != b {
+                let entry = (line + 1 - first).saturating_sub(1);
+                differences.push(format!("{field}[{entry}] is {} and {}", a.trim(), b.trim()));
+            }
+        }
+        differences.truncate(20);
+        differences.join(" ")
     }
 }

@@ -2,7 +2,7 @@
 //! no table. Wherever a table or a squared error is wanted, the sum is taken over the dots.
 
 use crate::fault::Fault;
-use crate::handed::{Call, Handed, ERROR, OFF, ON, START_DOTS, START_ERROR, STATS, SWAPS};
+use crate::handed::{Call, Cell, Handed, ERROR, OFF, ON, START_DOTS, START_ERROR, STATS, SWAPS};
 use std::cmp::Reverse;
 
 /// The largest squared error.
@@ -10,7 +10,8 @@ pub const MAX_ERROR: i64 = 4_468_483_974_758_400;
 /// The largest count in a ledger.
 pub const MAX_COUNT: i64 = 1 << 44;
 
-pub type Cell = (usize, usize);
+/// The refusals because of the input save those of a sheet, then those because of the state, in their order.
+pub const ORDER: [u32; 12] = [1, 2, 3, 4, 5, 6, 7, 8, 9, 20, 21, 22];
 
 /// The second implementation, right or with one mistake.
 #[derive(Clone, Copy, Default)]
@@ -38,11 +39,7 @@ pub fn autocorrelation(radius: usize, psf: &[i64]) -> Vec<i64> {
             0
         }
     };
-    let c = |down, right| {
-        square(r)
-            .map(|(row, col)| p(row, col) * p(row + down, col + right))
-            .sum()
-    };
+    let c = |down, right| square(r).map(|(row, col)| p(row, col) * p(row + down, col + right)).sum();
     square(2 * r).map(|(down, right)| c(down, right)).collect()
 }
 
@@ -84,7 +81,7 @@ pub struct Plate {
     reach: usize,
     psf: Vec<i64>,
     gray: Vec<u8>,
-    pub dots: Vec<u8>,
+    dots: Vec<u8>,
     /// the error of each cell, with a margin of 2r cells of 0 all round
     errors: Vec<i64>,
     on: i64,
@@ -116,7 +113,7 @@ impl Plate {
     }
 
     /// All cells in raster order.
-    pub fn all_cells(&self) -> impl Iterator<Item = Cell> {
+    fn all_cells(&self) -> impl Iterator<Item = Cell> {
         let width = self.width;
         (0..self.width * self.height).map(move |at| (at / width, at % width))
     }
@@ -181,11 +178,7 @@ impl Plate {
     fn folded_sum(&self, c: &[i64], (row, col): Cell) -> i64 {
         let fold = |from: usize, step: isize, size: usize| (from as isize + step).rem_euclid(size as isize) as usize;
         let error = |(down, right)| self.error((fold(row, down, self.height), fold(col, right, self.width)));
-        square(2 * self.radius as isize)
-            .map(error)
-            .zip(c)
-            .map(|(e, c)| e * c)
-            .sum()
+        square(2 * self.radius as isize).map(error).zip(c).map(|(e, c)| e * c).sum()
     }
 
     /// E = sum of e(m) * T(m).
@@ -208,9 +201,7 @@ impl Plate {
     /// E again: the sum of the squares of the spread-out error over the widened plate.
     pub fn sum_of_squares(&self) -> i64 {
         let (high, wide) = (self.height + 2 * self.radius, self.width + 2 * self.radius);
-        (0..high * wide)
-            .map(|at| self.spread_out((at / wide, at % wide)).pow(2))
-            .sum()
+        (0..high * wide).map(|at| self.spread_out((at / wide, at % wide)).pow(2)).sum()
     }
 
     /// The part of that sum that these cells have to do with: the cells of the widened plate within r of one of them.
@@ -342,14 +333,8 @@ impl Plate {
     pub fn within_half_peak(&self) -> bool {
         let c = self.c();
         let peak = c[c.len() / 2];
-        let within = |(&dot, t): (&u8, i64)| {
-            if dot == 0 {
-                2 * t >= -255 * peak
-            } else {
-                2 * t <= 255 * peak
-            }
-        };
-        self.dots.iter().zip(self.filtered_error()).all(within)
+        let outward = |(&dot, t): (&u8, i64)| if dot == 0 { -2 * t } else { 2 * t };
+        self.dots.iter().zip(self.filtered_error()).map(outward).all(|double| double <= 255 * peak)
     }
 
     /// What a toggle or swap adds to E by document 01's formulas, here only for a comparison with the sums.
@@ -384,41 +369,47 @@ impl Second {
         self.fault == Some(fault)
     }
 
-    /// The refusals 1 to 9 and 20 to 22, least number first. A call judges only what it is handed.
+    /// Judges what a call is handed: least number first, then the state.
     pub fn judge(&self, call: Call, handed: &Handed) -> Result<(), u32> {
+        let mut order = ORDER;
+        if let Some(Fault::Exchanged(at)) = self.fault {
+            order.swap(at, at + 1);
+        }
+        order.into_iter().try_for_each(|number| refuse(number, self.draws(number, call, handed)))
+    }
+
+    /// Whether a call draws this number, none of those before it being drawn. A call judges only what it is handed.
+    fn draws(&self, number: u32, call: Call, handed: &Handed) -> bool {
+        match number {
+            1 => call.is_sized() && (self.outside(handed.width) || self.outside(handed.height)),
+            2 => handed.radius > 3,
+            3 => call.is_measured() && handed.reach > 6,
+            4 => call.is_measured() && handed.start > 2,
+            5 => lengths(call, handed).iter().any(|(length, measure)| length != measure),
+            6 => call != Call::WriteSheet && self.sum_outside(&handed.psf),
+            7 => self.judges_dots(call, handed) && handed.dots.iter().any(|&dot| dot > 1),
+            8 => call.named(handed).iter().any(|&(row, col)| row >= handed.height || col >= handed.width),
+            9 => call == Call::TrySwap && self.beyond_reach(handed),
+            20 => call.is_later() && self.table_differs(handed),
+            21 => call.is_later() && self.ledger_differs(&Plate::new(handed, self.fault), &handed.stats),
+            _ => call == Call::TrySwap && equal_dots(handed),
+        }
+    }
+
+    /// 1: width or height outside 1 to 256.
+    fn outside(&self, size: usize) -> bool {
         let largest = if self.has(Fault::Size257Taken) { 257 } else { 256 };
-        let outside = |size: usize| size < 1 || size > largest;
-        refuse(1, call.is_sized() && (outside(handed.width) || outside(handed.height)))?;
-        refuse(2, handed.radius > 3)?;
-        refuse(3, call.is_measured() && handed.reach > 6)?;
-        refuse(4, call.is_measured() && handed.start > 2)?;
-        if self.has(Fault::SumBeforeLengths) {
-            self.judge_sum(call, handed)?;
-        }
-        refuse(
-            5,
-            lengths(call, handed).iter().any(|(length, measure)| length != measure),
-        )?;
-        self.judge_sum(call, handed)?;
-        refuse(
-            7,
-            self.judges_dots(call, handed) && handed.dots.iter().any(|&dot| dot > 1),
-        )?;
-        if call.is_later() {
-            self.judge_cells(call, handed)?;
-            self.judge_state(call, handed)?;
-        }
-        Ok(())
+        size < 1 || size > largest
     }
 
-    /// 6: spread sum 0 or above 1,024. The writer does not judge it.
-    fn judge_sum(&self, call: Call, handed: &Handed) -> Result<(), u32> {
+    /// 6: spread sum 0 or above 1,024.
+    fn sum_outside(&self, psf: &[u8]) -> bool {
         let largest = if self.has(Fault::Sum1025Taken) { 1025 } else { 1024 };
-        let sum: usize = handed.psf.iter().map(|&entry| usize::from(entry)).sum();
-        refuse(6, call != Call::WriteSheet && (sum == 0 || sum > largest))
+        let sum: usize = psf.iter().map(|&entry| usize::from(entry)).sum();
+        sum == 0 || sum > largest
     }
 
-    /// Whether 7 is judged: start of kind 2, table, E, writer, and all later calls.
+    /// 7 is for a start of kind 2, table, E, writer, and all later calls.
     fn judges_dots(&self, call: Call, handed: &Handed) -> bool {
         match call {
             Call::Start => handed.start == 2 || self.has(Fault::DotsAlwaysJudged),
@@ -426,69 +417,32 @@ impl Second {
         }
     }
 
-    /// 8: a named cell off the plate. 9: swap of a cell with itself or with an offset beyond the reach.
-    fn judge_cells(&self, call: Call, handed: &Handed) -> Result<(), u32> {
-        let count = match call {
-            Call::TryToggle => 1,
-            Call::TrySwap => 2,
-            _ => 0,
-        };
-        let named = handed.named();
-        refuse(
-            8,
-            named[..count]
-                .iter()
-                .any(|&(row, col)| row >= handed.height || col >= handed.width),
-        )?;
+    /// 9: swap of a cell with itself or with a row or column offset beyond the reach.
+    fn beyond_reach(&self, handed: &Handed) -> bool {
         let down = handed.row.abs_diff(handed.row2);
         let right = handed.col.abs_diff(handed.col2);
-        let itself = named[0] == named[1] && !self.has(Fault::SameCellTaken);
-        let beyond = down > handed.reach || right > handed.reach && !self.has(Fault::ColumnBeyondReachTaken);
-        refuse(9, call == Call::TrySwap && (itself || beyond))
+        let itself = (down, right) == (0, 0) && !self.has(Fault::SameCellTaken);
+        itself || down > handed.reach || right > handed.reach && !self.has(Fault::ColumnBeyondReachTaken)
     }
 
-    /// 20: a table entry differs from T. 21: the ledger. 22: swap attempt on equal dots.
-    fn judge_state(&self, call: Call, handed: &Handed) -> Result<(), u32> {
-        let plate = Plate::new(handed, self.fault);
-        let equal = || call == Call::TrySwap && plate.dot(handed.named()[0]) == plate.dot(handed.named()[1]);
+    /// 20: a table entry differs from T.
+    fn table_differs(&self, handed: &Handed) -> bool {
         let judged = handed.table.len() - usize::from(self.has(Fault::LastEntryNotJudged));
-        let table = || {
-            handed
-                .table
-                .iter()
-                .zip(plate.filtered_error())
-                .take(judged)
-                .any(|(&entry, t)| i64::from(entry) != t)
-        };
-        refuse(22, self.has(Fault::EqualDotsFirst) && equal())?;
-        refuse(
-            21,
-            self.has(Fault::LedgerBeforeTable) && self.ledger_differs(&plate, &handed.stats),
-        )?;
-        refuse(20, table())?;
-        refuse(21, self.ledger_differs(&plate, &handed.stats))?;
-        refuse(22, equal())
+        let table = Plate::new(handed, self.fault).filtered_error();
+        handed.table.iter().zip(table).take(judged).any(|(&entry, t)| i64::from(entry) != t)
     }
 
     /// The conditions of 21. A count below 0 counts as one above all limits (the header).
     fn ledger_differs(&self, plate: &Plate, stats: &[i64]) -> bool {
         let cells = (plate.width * plate.height) as i64;
-        let dots_limit = if self.has(Fault::StartDotsNotLimited) {
-            i64::MAX
-        } else {
-            cells
-        };
-        let error_limit = if self.has(Fault::StartErrorNotLimited) {
-            i64::MAX
-        } else {
-            MAX_ERROR
-        };
+        let dots_limit = if self.has(Fault::StartDotsNotLimited) { i64::MAX } else { cells };
+        let error_limit = if self.has(Fault::StartErrorNotLimited) { i64::MAX } else { MAX_ERROR };
         let least = if self.has(Fault::FallBy254) { 254 } else { 255 };
-        let counts = &stats[ON..=SWAPS];
+        let count_taken = |&count: &i64| count <= MAX_COUNT && (count >= 0 || self.has(Fault::NegativeCountTaken));
         let wide = |at: usize| i128::from(stats[at]);
         stats[ERROR] != plate.squared_error()
             || !(0..=error_limit).contains(&stats[START_ERROR])
-            || counts.iter().any(|count| !(0..=MAX_COUNT).contains(count))
+            || !stats[ON..=SWAPS].iter().all(count_taken)
             || !(0..=dots_limit).contains(&stats[START_DOTS])
             || i128::from(plate.dot_total()) != wide(START_DOTS) + wide(ON) - wide(OFF)
             || least * (wide(ON) + wide(OFF) + wide(SWAPS)) > wide(START_ERROR) - wide(ERROR)
@@ -499,11 +453,7 @@ impl Second {
         match call {
             Call::Autocorrelation => {
                 let psf: Vec<_> = handed.psf.iter().map(|&entry| i64::from(entry)).collect();
-                let psf = if self.has(Fault::PsfTransposed) {
-                    transposed(&psf, handed.radius)
-                } else {
-                    psf
-                };
+                let psf = if self.has(Fault::PsfTransposed) { transposed(&psf, handed.radius) } else { psf };
                 handed.autocorrelation = narrow(autocorrelation(handed.radius, &psf));
             }
             Call::FilteredError => handed.table = narrow(Plate::new(handed, self.fault).filtered_error()),
@@ -519,10 +469,7 @@ impl Second {
         match handed.start {
             0 => handed.dots.fill(0),
             1 => {
-                handed.dots = cells
-                    .zip(&handed.gray)
-                    .map(|(cell, &gray)| u8::from(self.screened(cell, gray)))
-                    .collect()
+                handed.dots = cells.zip(&handed.gray).map(|(cell, &gray)| u8::from(self.screened(cell, gray))).collect()
             }
             _ => {}
         }
@@ -534,11 +481,7 @@ impl Second {
 
     /// A cell gets a dot exactly when 256 * gray > 255 * threshold.
     fn screened(&self, (row, col): Cell, gray: u8) -> bool {
-        let (row, col) = if self.has(Fault::ThresholdTransposed) {
-            (col, row)
-        } else {
-            (row, col)
-        };
+        let (row, col) = if self.has(Fault::ThresholdTransposed) { (col, row) } else { (row, col) };
         let limit = 255 * threshold(row % 16, col % 16);
         256 * u32::from(gray) + u32::from(self.has(Fault::ThresholdReached)) > limit
     }
@@ -547,10 +490,8 @@ impl Second {
     fn later(&self, call: Call, handed: &mut Handed) {
         let mut plate = Plate::new(handed, self.fault);
         (plate.on, plate.off, plate.swaps) = (handed.stats[ON], handed.stats[OFF], handed.stats[SWAPS]);
-        let named = handed.named();
         match call {
-            Call::TryToggle => handed.change = self.attempt(&mut plate, &named[..1]),
-            Call::TrySwap => handed.change = self.attempt(&mut plate, &named),
+            Call::TryToggle | Call::TrySwap => handed.change = self.attempt(&mut plate, &call.named(handed)),
             Call::ToggleScan => handed.changes = plate.toggle_scan(),
             Call::SwapScan => handed.changes = plate.swap_scan(),
             _ => handed.scans = plate.converge(),
@@ -568,6 +509,12 @@ impl Second {
         }
         change
     }
+}
+
+/// 22: swap attempt on equal dots.
+fn equal_dots(handed: &Handed) -> bool {
+    let plate = Plate::new(handed, None);
+    plate.dot((handed.row, handed.col)) == plate.dot((handed.row2, handed.col2))
 }
 
 /// The slices that a call is lent, each with its length and its measure. Called when 1 and 2 are not drawn.

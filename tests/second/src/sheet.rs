@@ -37,10 +37,7 @@ struct Composed {
 
 impl Composed {
     fn of<'a>(mut runs: impl Iterator<Item = &'a [u8]>, fault: Option<Fault>) -> Composed {
-        let mut sheet = Composed {
-            fault,
-            ..Composed::default()
-        };
+        let mut sheet = Composed { fault, ..Composed::default() };
         sheet.complete = sheet.lines(&mut runs).is_some();
         sheet
     }
@@ -88,34 +85,21 @@ impl Composed {
     fn number(&mut self, run: &[u8], (least, most): (usize, usize)) {
         let long_zero = run.len() > 1 && run[0] == b'0' && self.fault != Some(Fault::LeadingZeroTaken);
         let run = if long_zero { &run[..1] } else { run };
-        let value = run
-            .iter()
-            .fold(0, |value, digit| (10 * value + usize::from(digit - b'0')).min(257));
+        let value = run.iter().fold(0, |value, digit| (10 * value + usize::from(digit - b'0')).min(257));
         let outside = !long_zero && !(least..=most).contains(&value);
-        self.numbers.push(Placed {
-            place: self.text.len(),
-            value,
-            digits: run.len(),
-            outside,
-        });
+        self.numbers.push(Placed { place: self.text.len(), value, digits: run.len(), outside });
         self.text.extend(run);
     }
 
     /// The measures, if all five are there and within their fields.
     fn measures(&self) -> Option<[usize; MEASURES]> {
         let five = self.numbers.get(..MEASURES)?;
-        let within = five
-            .iter()
-            .zip(FIELDS)
-            .all(|(number, (least, most))| (least..=most).contains(&number.value));
+        let within = five.iter().zip(FIELDS).all(|(number, (least, most))| (least..=most).contains(&number.value));
         within.then(|| std::array::from_fn(|at| five[at].value))
     }
 
     fn values(&self, from: usize, count: usize) -> Vec<u8> {
-        self.numbers[from..from + count]
-            .iter()
-            .map(|number| number.value as u8)
-            .collect()
+        self.numbers[from..from + count].iter().map(|number| number.value as u8).collect()
     }
 
     /// 10: the first place where the input differs from this sheet, its end among the places.
@@ -129,11 +113,7 @@ impl Composed {
     fn outside(&self, differs: Option<usize>) -> Option<usize> {
         let number = self.numbers.iter().find(|number| number.outside)?;
         let in_input = differs.is_none_or(|place| number.place < place);
-        let shift = if self.fault == Some(Fault::NumberRefusedAtEnd) {
-            number.digits
-        } else {
-            0
-        };
+        let shift = if self.fault == Some(Fault::NumberRefusedAtEnd) { number.digits } else { 0 };
         in_input.then_some(number.place + shift)
     }
 
@@ -158,11 +138,7 @@ fn runs(input: &[u8]) -> impl Iterator<Item = &[u8]> {
 pub fn text(handed: &Handed, start: usize) -> Vec<u8> {
     let measures = [handed.width, handed.height, handed.radius, handed.reach, start];
     let bytes = handed.psf.iter().chain(&handed.gray).chain(&handed.dots);
-    let numbers: Vec<String> = measures
-        .iter()
-        .map(usize::to_string)
-        .chain(bytes.map(u8::to_string))
-        .collect();
+    let numbers: Vec<String> = measures.iter().map(usize::to_string).chain(bytes.map(u8::to_string)).collect();
     Composed::of(numbers.iter().map(String::as_bytes), None).text
 }
 
@@ -209,13 +185,8 @@ impl Second {
 
     /// Writes a sheet with start 2. Draws 1 to 5 and 7, and 12 where the output is shorter than the sheet.
     pub fn write_sheet(&self, handed: &mut Handed) -> Result<(), u32> {
-        self.judge(Call::WriteSheet, handed)
-            .inspect_err(|_| handed.offset = 0)?;
-        let start = if self.fault == Some(Fault::StartKept) {
-            handed.start
-        } else {
-            2
-        };
+        self.judge(Call::WriteSheet, handed).inspect_err(|_| handed.offset = 0)?;
+        let start = if self.fault == Some(Fault::StartKept) { handed.start } else { 2 };
         let sheet = text(handed, start);
         let needed = sheet.len() + usize::from(self.fault == Some(Fault::ExactLengthRefused));
         if handed.out.len() < needed {
@@ -250,14 +221,7 @@ impl Second {
         }
         let mut printed = text(&handed, 2);
         let stats = &handed.stats;
-        let figures = [
-            stats[START_ERROR],
-            stats[ERROR],
-            stats[ON],
-            stats[OFF],
-            stats[SWAPS],
-            handed.scans as i64,
-        ];
+        let figures = [stats[START_ERROR], stats[ERROR], stats[ON], stats[OFF], stats[SWAPS], handed.scans as i64];
         printed.extend(b"before after on off swaps scans\n");
         printed.extend(figures.map(|figure| figure.to_string()).join(" ").bytes());
         printed.push(b'\n');
