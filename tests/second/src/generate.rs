@@ -254,7 +254,7 @@ pub fn damaged(random: &mut Random, call: Call) -> Handed {
     let first = random.below(refusals.len());
     let second = if random.one_in(2) { random.below(refusals.len()) } else { (first + 1) % refusals.len() };
     let aims = random.pick(&[0, 0, 0, 1, 1, 2, 2, 2]);
-    // the later number first: it needs what the earlier one takes away
+    // the higher number first: its damage needs what that of the lower one takes away
     let mut aimed = [refusals[first], refusals[second]][..aims].to_vec();
     aimed.sort_by_key(|&number| Reverse(number));
     aimed.dedup();
@@ -292,7 +292,10 @@ fn damage(random: &mut Random, call: Call, number: u32, handed: &mut Handed) {
             handed.dots[at] = random.pick(&[2, 3, 128, 254, 255]);
         }
         8 => name_off_plate(random, handed),
-        9 => name_beyond_reach(random, handed),
+        9 => {
+            handed.reach = handed.reach.min(random.below(3));
+            name_beyond_reach(random, handed);
+        }
         20 => {
             let any = random.below(handed.table.len());
             let at = random.pick(&[0, any, handed.table.len() - 1]);
