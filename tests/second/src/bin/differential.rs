@@ -1,0 +1,446 @@
+//! Holds the static library against the second implementation: the same call, the same input, and then the same answer and
+//! the same value of every byte of every buffer, of every result and of the guards around them.
+//!
+//!     cargo run --offline --release               # the comparison
+//!     cargo run --offline --release -- --faults   # that the comparison finds every mistake of src/fault.rs
+//!
+//! PLATEMAKER_SEED=N repeats the run of a seed; without it the clock gives one. PLATEMAKER_ROUNDS=N runs longer or shorter
+//! than the 2,000 rounds of the default; a run that is too short fails, since some refusal will not have occurred in it.
+//! The last line is 'N passed, M failed': the calls that agree, or with --faults the mistakes found.
+
+use second::fault::Fault;
+use second::generate::{self, Random};
+use second::handed::{Call, Handed, ERROR, MEASURES, OFF, ON, START_DOTS, START_ERROR, STATS};
+use second::library;
+use second::plain::{self, Plate, Second};
+use second::sheet;
+use std::collections::BTreeMap;
+use std::process::ExitCode;
+use std::thread::Builder;
+
+/// The rounds of the default.
+const ROUNDS: u64 = 2000;
+/// The stack of a thread, in bytes.
+const STACK: usize = 8 << 20;
+/// The most differences that are shown in full.
+const SHOWN: u64 = 5;
+
+struct Run {
+    second: Second,
+    seed: u64,
+    random: Random,
+    passed: u64,
+    failed: u64,
+    /// how often each call gave each answer
+    answers: BTreeMap<(usize, u32), u64>,
+    /// how often attempts, scans and settlings that were not refused came out in each way
+    outcomes: BTreeMap<(usize, &'static str), u64>,
+}
+
+impl Run {
+    fn new(seed: u64, fault: Option<Fault>) -> Run {
+        Run {
+            second: Second { fault },
+            seed,
+            random: Random::new(seed),
+            passed: 0,
+            failed: 0,
+            answers: BTreeMap::new(),
+            outcomes: BTreeMap::new(),
+        }
+    }
+
+    /// Makes a call of the library and of the second implementation, and compares. The library's result stays in the record.
+    fn compare(&mut self, call: Call, handed: &mut Handed) -> u32 {
+        let before = handed.clone();
+        let mut wanted = handed.clone();
+        let number = self.second.call(call, &mut wanted);
+        let (answer, guards) = library::call(call, handed);
+        *self.answers.entry((call as usize, answer)).or_default() += 1;
+        if let Some(outcome) = outcome(call, answer, &before, handed) {
+            *self.outcomes.entry((call as usize, outcome)).or_default() += 1;
+        }
+        if answer == number && *handed == wanted && guards {
+            self.passed += 1;
+        } else {
+            let what =
+                format!("the library answers {answer}, the second implementation {number}, guards kept: {guards}");
+            let differences = handed.differences(&wanted);
+            self.fail(&format!("{call:?}: {what}; results that differ: {differences}\nhanded {before:?}"));
+        }
+        answer
+    }
+
+    /// Counts a failure; a run with a mistake in it is meant to fail and says nothing.
+    fn fail(&mut self, what: &str) {
+        self.failed += 1;
+        if self.second.fault.is_none() && self.failed <= SHOWN {
+            println!("seed {}, case {}: {what}\n", self.seed, self.passed + self.failed);
+        }
+    }
+
+    fn expect(&mut self, what: &str, holds: bool) {
+        if !holds {
+            self.fail(what);
+        }
+    }
+
+    /// One round: each call once on a plate, a list of calls now and then, sheets read and written.
+    fn round(&mut self) {
+        for call in Call::ALL.into_iter().filter(|&call| !matches!(call, Call::ReadSheet | Call::WriteSheet)) {
+            let mut handed = generate::damaged(&mut self.random, call);
+            self.compare(call, &mut handed);
+        }
+        if self.random.one_in(4) {
+            self.list();
+        }
+        (0..4).for_each(|_| self.read_a_sheet());
+        self.write_a_sheet();
+    }
+
+    /// A list of calls, each handed what the last one left.
+    fn list(&mut self) {
+        let size = generate::size(&mut self.random);
+        let mut handed = generate::handed(&mut self.random, size);
+        if self.compare(Call::Start, &mut handed) > 0 {
+            return;
+        }
+        let first = handed.stats.clone();
+        let calls = self.random.within(1, 16);
+        for _ in 0..calls {
+            use Call::*;
+            let call = self.random.pick(&[
+                TryToggle, TryToggle, TryToggle, TrySwap, TrySwap, TrySwap, TrySwap, ToggleScan, SwapScan, Converge,
+            ]);
+            generate::name_cells(&mut self.random, &mut handed);
+            let before = handed.clone();
+            let answer = self.compare(call, &mut handed);
+            self.demand(call, answer, &first, &before, &handed);
+        }
+    }
+
+    /// Demand 3 after one call of a list, by fresh sums.
+    fn demand(&mut self, call: Call, answer: u32, first: &[i64], before: &Handed, after: &Handed) {
+        let (stats, accepted) = (&after.stats, after.accepted() - before.accepted());
+        let mut plate = Plate::new(after, None);
+        let table: Vec<i64> = after.table.iter().map(|&t| i64::from(t)).collect();
+        let dots: i64 = after.dots.iter().map(|&dot| i64::from(dot)).sum();
+        let fall = first[START_ERROR] - stats[ERROR];
+        let answered = match call {
+            _ if answer > 0 => accepted == 0,
+            Call::TryToggle | Call::TrySwap => accepted == i64::from(after.change < 0),
+            Call::Converge => after.scans as i64 <= 2 * accepted + 2 && plate.rests() && plate.within_half_peak(),
+            _ => accepted == after.changes as i64,
+        };
+        let claims = [
+            ("nothing draws 20 or 21", matches!(answer, 0 | 8 | 9 | 22)),
+            ("the table is T", table == plate.filtered_error()),
+            ("E now is the sum", stats[ERROR] == plate.sum_of_squares()),
+            ("E at the start stays", stats[START_ERROR] == first[START_ERROR]),
+            ("the dots at the start stay", stats[START_DOTS] == first[START_DOTS]),
+            ("the dot total is the first one + on - off", dots == first[START_DOTS] + stats[ON] - stats[OFF]),
+            ("the fall is at least 255 for each accepted change", fall >= 255 * after.accepted()),
+            ("the answer is that of its accepted changes, and a settling rests within few scans", answered),
+        ];
+        for (claim, _) in claims.iter().filter(|(_, holds)| !holds) {
+            let what = format!("{call:?} answers {answer}, but it does not hold that {claim}");
+            self.fail(&format!("{what}\nhanded {before:?}\nleft {after:?}"));
+        }
+    }
+
+    /// Reads a sheet with none, one or two damages.
+    fn read_a_sheet(&mut self) {
+        let size = generate::size(&mut self.random);
+        let mut handed = generate::handed(&mut self.random, size);
+        generate::lend_for_reading(&mut self.random, &mut handed);
+        let damages = self.random.below(3);
+        (0..damages).for_each(|_| generate::damage_sheet(&mut self.random, &mut handed.bytes));
+        self.compare(Call::ReadSheet, &mut handed);
+    }
+
+    /// Writes a sheet into an output of about its length, and reads it back.
+    fn write_a_sheet(&mut self) {
+        let mut handed = generate::damaged(&mut self.random, Call::WriteSheet);
+        let room = sheet::text(&handed, 2).len();
+        let length = self.random.pick(&[0, room - 1, room, room, room + 1, room + 50]);
+        handed.out = vec![7; length];
+        self.write_and_read(&mut handed);
+    }
+
+    fn write_and_read(&mut self, handed: &mut Handed) {
+        if self.compare(Call::WriteSheet, handed) > 0 {
+            return;
+        }
+        let mut back = handed.clone();
+        back.bytes = handed.out[..handed.length].to_vec();
+        back.measures = vec![0; MEASURES];
+        [&mut back.psf, &mut back.gray, &mut back.dots].into_iter().for_each(|buffer| buffer.fill(9));
+        let answer = self.compare(Call::ReadSheet, &mut back);
+        let measures = [handed.width, handed.height, handed.radius, handed.reach, 2];
+        let same = (&back.psf, &back.gray, &back.dots) == (&handed.psf, &handed.gray, &handed.dots);
+        self.expect("a sheet written is read back", answer == 0 && same && back.measures == measures);
+    }
+
+    /// Three small sheets, one of each kind of start, with every damage at every place.
+    fn sweep(&mut self) {
+        for start in 0..3 {
+            let mut handed = generate::handed(&mut self.random, (2, 2));
+            (handed.radius, handed.psf, handed.start) = (start % 2, generate::psf(&mut self.random, start % 2), start);
+            handed.measures = vec![77; MEASURES];
+            for bytes in generate::all_damages(&sheet::text(&handed, start)) {
+                let mut damaged = Handed { bytes, ..handed.clone() };
+                self.compare(Call::ReadSheet, &mut damaged);
+            }
+        }
+    }
+
+    /// Rounds in several threads: there is no state between calls.
+    fn at_the_same_time(&mut self) {
+        let (seed, fault) = (self.seed, self.second.fault);
+        let rounds = move |number: u64| {
+            let mut run = Run::new(seed, fault);
+            run.random = Random::new(seed.wrapping_add(number));
+            (0..30).for_each(|_| run.round());
+            (run.passed, run.failed)
+        };
+        let threads =
+            [1, 2, 3, 4].map(|number| Builder::new().stack_size(STACK).spawn(move || rounds(number)).unwrap());
+        for thread in threads {
+            let (passed, failed) = thread.join().unwrap();
+            self.passed += passed;
+            self.failed += failed;
+        }
+    }
+
+    /// The largest plates, and the ordered start with every gray.
+    fn large(&mut self) {
+        use Call::*;
+        for size in [(256, 256), (256, 255), (200, 256)] {
+            let mut handed = generate::handed(&mut self.random, size);
+            for call in [FilteredError, SquaredError, TryToggle, TrySwap, Start, ToggleScan] {
+                self.compare(call, &mut handed);
+            }
+        }
+        self.extreme();
+        self.large_sheets();
+        for gray in 0..=255 {
+            let mut handed = generate::handed(&mut self.random, (17, 33));
+            (handed.start, handed.radius, handed.psf) = (1, 0, vec![1]);
+            handed.gray.fill(gray);
+            self.compare(Start, &mut handed);
+        }
+    }
+
+    /// The largest |T| that there is: all paper under dots, all black under blanks, and the largest psf sum.
+    fn extreme(&mut self) {
+        for dot in 0..2 {
+            let mut handed = generate::handed(&mut self.random, (256, 256));
+            (handed.radius, handed.psf, handed.start) = (1, vec![255, 255, 255, 255, 4, 0, 0, 0, 0], 2);
+            handed.dots.fill(dot);
+            handed.gray.fill(255 * (1 - dot));
+            self.compare(Call::FilteredError, &mut handed);
+            self.expect("the largest |T|", handed.table.iter().any(|t| t.abs() == 267_386_880));
+            for call in [Call::SquaredError, Call::Start, Call::ToggleScan] {
+                self.compare(call, &mut handed);
+            }
+        }
+    }
+
+    /// The largest sheets, and numbers of very many digits.
+    fn large_sheets(&mut self) {
+        let mut handed = generate::handed(&mut self.random, (256, 256));
+        handed.out = vec![7; sheet::text(&handed, 2).len()];
+        self.write_and_read(&mut handed);
+        handed.measures = vec![0; MEASURES];
+        for digits in [b"1", b"0"] {
+            let line: &[u8] = b"width height radius reach start\n";
+            handed.bytes = [line, &digits.repeat(100_000), b" 1 0 0 0\n"].concat();
+            self.compare(Call::ReadSheet, &mut handed);
+        }
+    }
+
+    /// The examples of document 01.
+    fn examples(&mut self) {
+        use Call::*;
+        let mut one = plate((1, 1), 0, &[1], &[255], &[0]);
+        self.compare(SquaredError, &mut one);
+        self.compare(Start, &mut one);
+        self.compare(TryToggle, &mut one);
+        self.expect("gray 255", one.error == 65025 && one.change == -65025);
+        for (gray, change, errors) in [(128, -255, [16384, 16129]), (127, 255, [16129, 16129])] {
+            let mut one = plate((1, 1), 0, &[1], &[gray], &[0]);
+            self.compare(Start, &mut one);
+            self.compare(TryToggle, &mut one);
+            self.expect("gray 127 and 128", one.change == change && one.stats[..2] == errors);
+        }
+
+        let mut row = plate((2, 1), 1, &[0, 0, 0, 1, 2, 1, 0, 0, 0], &[100, 100], &[0, 0]);
+        self.compare(Autocorrelation, &mut row);
+        self.expect("c along the row", row.autocorrelation[10..15] == [1, 4, 6, 4, 1]);
+        self.compare(Start, &mut row);
+        self.expect("gray 100 100", row.table == [-1000, -1000] && row.stats[ERROR] == 200_000);
+        self.compare(TryToggle, &mut row);
+        self.expect("toggle first", row.change == -119_850 && row.table == [530, 20] && row.stats[ERROR] == 80_150);
+        self.compare(TrySwap, &mut row);
+        self.expect("then swap", row.change == 0 && row.stats[..] == [200_000, 80_150, 0, 1, 0, 0]);
+
+        let mut given = plate((2, 1), 1, &[0, 0, 0, 1, 2, 1, 0, 0, 0], &[100, 130], &[1, 0]);
+        self.compare(Start, &mut given);
+        self.expect("gray 100 130", given.table == [410, -160] && given.stats[ERROR] == 84_350);
+        let mut settled = given.clone();
+        self.compare(TrySwap, &mut given);
+        let swapped = given.change == -30_600 && given.table == [-100, 350] && given.stats[ERROR] == 53_750;
+        self.expect("swap", swapped);
+        self.compare(Converge, &mut settled);
+        self.expect("settling it takes 4 scans", settled.scans == 4);
+
+        let mut lopsided = plate((1, 1), 1, &[0, 0, 0, 0, 1, 2, 0, 0, 0], &[0], &[0]);
+        self.compare(Autocorrelation, &mut lopsided);
+        self.expect("c of 1 2", lopsided.autocorrelation[10..15] == [0, 2, 5, 2, 0]);
+        let corner = [(0, 0), (0, 1), (1, 0), (1, 1)].map(|(row, col)| plain::threshold(row, col));
+        self.expect("thresholds", corner == [0, 128, 192, 64]);
+        for (gray, dots) in [(127, [1, 0]), (128, [1, 1])] {
+            let mut ordered = plate((2, 1), 0, &[1], &[gray, gray], &[0, 0]);
+            ordered.start = 1;
+            self.compare(Start, &mut ordered);
+            self.expect("kind 1", ordered.dots == dots);
+        }
+        for (last, number) in [(0, 0), (1, 6)] {
+            let mut largest = plate((1, 1), 1, &[255, 255, 255, 255, 4, 0, 0, 0, last], &[0], &[0]);
+            let answer = self.compare(Start, &mut largest);
+            self.expect("psf sums of 1,024 and 1,025", answer == number);
+        }
+        let nearest = [(-1, -1), (-1, 1), (1, -1), (1, 1), (-1, 0), (0, -1), (0, 1), (1, 0)];
+        self.expect("partners", plain::partners(1) == nearest && plain::partners(6).len() == 168);
+        self.expect("the sheet of document 01", self.second.settle(SHEET) == PRINTED);
+    }
+
+    /// The sums of the second implementation against each other: E in two ways, a change in three.
+    fn sums(&mut self) {
+        for _ in 0..300 {
+            let size = (self.random.within(1, 9), self.random.within(1, 9));
+            let handed = generate::handed(&mut self.random, size);
+            let mut plate = Plate::new(&handed, self.second.fault);
+            self.expect("E in two ways", plate.squared_error() == plate.sum_of_squares());
+            for call in [Call::TryToggle, Call::TrySwap] {
+                let cells = call.named(&handed);
+                if cells.len() == 2 && plate.dot(cells[0]) == plate.dot(cells[1]) {
+                    continue;
+                }
+                let change = plate.change(&cells);
+                let same = change == plate.change_of_whole_sum(&cells) && change == plate.change_by_formula(&cells);
+                self.expect("a change in three ways", same);
+            }
+        }
+    }
+
+    /// How often each call gave each answer and outcome; fails where one that there is never occurred.
+    fn coverage(&mut self) {
+        for call in Call::ALL {
+            let index = call as usize;
+            let answers =
+                self.answers.range((index, 0)..(index + 1, 0)).map(|((_, answer), count)| format!("{answer}: {count}"));
+            let outcomes =
+                self.outcomes.range((index, "")..(index + 1, "")).map(|((_, way), count)| format!("{way}: {count}"));
+            let counts: Vec<String> = answers.chain(outcomes).collect();
+            let calls: u64 = self.answers.range((index, 0)..(index + 1, 0)).map(|(_, count)| count).sum();
+            println!("{:<16} {calls} calls; {}", format!("{call:?}"), counts.join(", "));
+            for number in [&[0], call.refusals()].concat() {
+                let occurred = self.answers.contains_key(&(index, number));
+                self.expect(&format!("{call:?} never answered {number}"), occurred);
+            }
+            for way in outcomes_of(call) {
+                let occurred = self.outcomes.contains_key(&(index, way));
+                self.expect(&format!("{call:?} was never {way}"), occurred);
+            }
+        }
+    }
+}
+
+/// The ways in which a call can come out that is not refused.
+fn outcomes_of(call: Call) -> &'static [&'static str] {
+    match call {
+        Call::TryToggle | Call::TrySwap => &["accepted", "declined", "tied"],
+        _ if call.is_later() => &["changed", "unchanged"],
+        _ => &[],
+    }
+}
+
+fn outcome(call: Call, answer: u32, before: &Handed, after: &Handed) -> Option<&'static str> {
+    match call {
+        _ if answer > 0 || !call.is_later() => None,
+        Call::TryToggle | Call::TrySwap if after.change == 0 => Some("tied"),
+        Call::TryToggle | Call::TrySwap => Some(if after.change < 0 { "accepted" } else { "declined" }),
+        _ => Some(if before.dots == after.dots { "unchanged" } else { "changed" }),
+    }
+}
+
+/// A plate with dots given, and room for all results. A toggle is at the first cell, a swap with the second.
+fn plate((width, height): (usize, usize), radius: usize, psf: &[u8], gray: &[u8], dots: &[u8]) -> Handed {
+    Handed {
+        width,
+        height,
+        radius,
+        reach: 1,
+        start: 2,
+        psf: psf.to_vec(),
+        gray: gray.to_vec(),
+        dots: dots.to_vec(),
+        table: vec![0; gray.len()],
+        stats: vec![0; STATS],
+        col2: 1,
+        autocorrelation: vec![0; (4 * radius + 1).pow(2)],
+        ..Handed::default()
+    }
+}
+
+/// The sheet of document 01, and what the program prints for it.
+const SHEET: &[u8] = b"width height radius reach start\n2 1 1 1 0\npsf\n0 0 0\n1 2 1\n0 0 0\ngray\n100 100\n";
+const PRINTED: &[u8] = b"width height radius reach start\n2 1 1 1 2\npsf\n0 0 0\n1 2 1\n0 0 0\ngray\n100 100\n\
+    dots\n1 0\nbefore after on off swaps scans\n200000 80150 1 0 0 3\n";
+
+/// The comparison.
+fn differential(seed: u64, rounds: u64) -> (u64, u64) {
+    let mut run = Run::new(seed, None);
+    run.examples();
+    run.sums();
+    (0..rounds).for_each(|_| run.round());
+    run.sweep();
+    run.large();
+    run.at_the_same_time();
+    run.coverage();
+    (run.passed, run.failed)
+}
+
+/// Each mistake in a run of its own, up to the first difference.
+fn faults(seed: u64, rounds: u64) -> (u64, u64) {
+    let mut found = 0;
+    for fault in Fault::all() {
+        let mut run = Run::new(seed, Some(fault));
+        let caught = (0..rounds).any(|_| {
+            run.round();
+            run.failed > 0
+        });
+        println!(
+            "{:<24} {} after {} calls",
+            format!("{fault:?}"),
+            if caught { "found" } else { "NOT FOUND" },
+            run.passed + run.failed
+        );
+        found += u64::from(caught);
+    }
+    (found, Fault::all().len() as u64 - found)
+}
+
+fn main() -> ExitCode {
+    let seed = generate::seed();
+    let rounds = generate::number_from("PLATEMAKER_ROUNDS").unwrap_or(ROUNDS);
+    println!("PLATEMAKER_SEED={seed} PLATEMAKER_ROUNDS={rounds}");
+    let (passed, failed) = match std::env::args().nth(1).as_deref() {
+        None => differential(seed, rounds),
+        Some("--faults") => faults(seed, rounds),
+        Some(other) => panic!("no such option: {other}"),
+    };
+    println!("{passed} passed, {failed} failed");
+    ExitCode::from(u8::from(failed > 0))
+}

@@ -1,0 +1,108 @@
+//! Single mistakes that the second implementation can be given, to see that the comparison finds each of them.
+
+use crate::plain::ORDER;
+
+/// One mistake.
+#[derive(Clone, Copy, PartialEq, Eq, Debug)]
+pub enum Fault {
+    /// the psf transposed in the autocorrelation
+    PsfTransposed,
+    /// the plate folded round at its edges
+    Folded,
+    /// an attempt accepted with a change of 0
+    TiesAccepted,
+    /// the swap's change without c(m - n)
+    OffsetDropped,
+    /// toggles off counted as toggles on
+    OnForOff,
+    /// row and column exchanged in the thresholds
+    ThresholdTransposed,
+    /// a dot also where 256 * gray equals 255 * threshold
+    ThresholdReached,
+    /// partners nearest first
+    PartnersReversed,
+    /// partners of one distance from the right to the left
+    PartnersMirrored,
+    /// a swap scan that goes on with the same cell after an accepted swap
+    CellNotLeft,
+    /// a settling without a toggle scan after the swaps
+    StopsAfterSwaps,
+    /// a settling that does not count its last scan
+    LastScanNotCounted,
+    /// a width and height of 257 taken
+    Size257Taken,
+    /// a psf sum of 1,025 taken
+    Sum1025Taken,
+    /// the dots judged at a start of any kind
+    DotsAlwaysJudged,
+    /// the reach judged for rows alone
+    ColumnBeyondReachTaken,
+    /// 9 not drawn for a cell with itself
+    SameCellTaken,
+    /// the last table entry not judged
+    LastEntryNotJudged,
+    /// dots at the start not limited by the cells
+    StartDotsNotLimited,
+    /// E at the start not limited
+    StartErrorNotLimited,
+    /// a count below 0 taken
+    NegativeCountTaken,
+    /// 254 for 255 in the ledger's last condition
+    FallBy254,
+    /// a sheet's number with a leading zero taken
+    LeadingZeroTaken,
+    /// a number outside its field refused at its end
+    NumberRefusedAtEnd,
+    /// 12 last at an equal place
+    RoomLast,
+    /// the room for dots judged with every start
+    DotsRoomAlwaysJudged,
+    /// a reader that writes the dots also with start 0 and 1
+    DotsTouched,
+    /// a writer that keeps the kind of start
+    StartKept,
+    /// a writer that refuses an output of just the right length
+    ExactLengthRefused,
+    /// two neighbours in the order of the refusals 1 to 9 and 20 to 22 exchanged, this one and the next
+    Exchanged(usize),
+}
+
+impl Fault {
+    /// Every mistake.
+    pub fn all() -> Vec<Fault> {
+        let exchanged = (0..ORDER.len() - 1).map(Fault::Exchanged);
+        SINGLE.into_iter().chain(exchanged).collect()
+    }
+}
+
+const SINGLE: [Fault; 29] = [
+    Fault::PsfTransposed,
+    Fault::Folded,
+    Fault::TiesAccepted,
+    Fault::OffsetDropped,
+    Fault::OnForOff,
+    Fault::ThresholdTransposed,
+    Fault::ThresholdReached,
+    Fault::PartnersReversed,
+    Fault::PartnersMirrored,
+    Fault::CellNotLeft,
+    Fault::StopsAfterSwaps,
+    Fault::LastScanNotCounted,
+    Fault::Size257Taken,
+    Fault::Sum1025Taken,
+    Fault::DotsAlwaysJudged,
+    Fault::ColumnBeyondReachTaken,
+    Fault::SameCellTaken,
+    Fault::LastEntryNotJudged,
+    Fault::StartDotsNotLimited,
+    Fault::StartErrorNotLimited,
+    Fault::NegativeCountTaken,
+    Fault::FallBy254,
+    Fault::LeadingZeroTaken,
+    Fault::NumberRefusedAtEnd,
+    Fault::RoomLast,
+    Fault::DotsRoomAlwaysJudged,
+    Fault::DotsTouched,
+    Fault::StartKept,
+    Fault::ExactLengthRefused,
+];

@@ -1,0 +1,482 @@
+//! Random input: numbers, plates of all shapes with psf, gray, dots, table and stats, single damages to what a call is
+//! handed, sheets and single damages to a sheet.
+
+use crate::handed::{Call, Cell, Handed, ERROR, MEASURES, OFF, ON, START_DOTS, START_ERROR, STATS, SWAPS};
+use crate::plain::{Plate, MAX_COUNT, MAX_ERROR};
+use crate::sheet;
+use std::cmp::Reverse;
+use std::time::{SystemTime, UNIX_EPOCH};
+
+/// The number in an environment variable, if there is one.
+pub fn number_from(name: &str) -> Option<u64> {
+    let value = std::env::var(name).ok()?;
+    Some(value.parse().unwrap_or_else(|_| panic!("{name} is no number: {value}")))
+}
+
+/// The seed of a run: PLATEMAKER_SEED, else one from the clock.
+pub fn seed() -> u64 {
+    let clock = || SystemTime::now().duration_since(UNIX_EPOCH).unwrap().as_nanos() as u64;
+    number_from("PLATEMAKER_SEED").unwrap_or_else(clock)
+}
+
+/// The generator splitmix64.
+pub struct Random {
+    state: u64,
+}
+
+impl Random {
+    pub fn new(seed: u64) -> Random {
+        Random { state: seed }
+    }
+
+    pub fn any(&mut self) -> u64 {
+        self.state = self.state.wrapping_add(0x9E37_79B9_7F4A_7C15);
+        let mut z = self.state;
+        z = (z ^ z >> 30).wrapping_mul(0xBF58_476D_1CE4_E5B9);
+        z = (z ^ z >> 27).wrapping_mul(0x94D0_49BB_1331_11EB);
+        z ^ z >> 31
+    }
+
+    /// A number from 0 to `limit` - 1.
+    pub fn below(&mut self, limit: usize) -> usize {
+        (self.any() % limit as u64) as usize
+    }
+
+    /// A number from `least` to `most`.
+    pub fn within(&mut self, least: usize, most: usize) -> usize {
+        least + self.below(most - least + 1)
+    }
+
+    /// True once in `of` times.
+    pub fn one_in(&mut self, of: usize) -> bool {
+        self.below(of) == 0
+    }
+
+    pub fn pick<T: Copy>(&mut self, among: &[T]) -> T {
+        among[self.below(among.len())]
+    }
+
+    fn bytes(&mut self, length: usize) -> Vec<u8> {
+        (0..length).map(|_| self.any() as u8).collect()
+    }
+}
+
+/// Width and height: 1 by 1, one row, one column, small ones, up to 24 by 24, 256 wide, 256 high.
+pub fn size(random: &mut Random) -> (usize, usize) {
+    match random.below(100) {
+        0..=4 => (1, 1),
+        5..=14 => (random.within(1, 24), 1),
+        15..=24 => (1, random.within(1, 24)),
+        25..=74 => (random.within(1, 6), random.within(1, 6)),
+        75..=95 => (random.within(1, 12), random.within(1, 12)),
+        96..=97 => (random.within(13, 24), random.within(13, 24)),
+        98 => (256, random.within(1, 2)),
+        _ => (random.within(1, 2), 256),
+    }
+}
+
+/// A psf with a sum of 1 to 1,024: a single 1, few large entries, a bell, small lopsided ones, the largest sum.
+pub fn psf(random: &mut Random, radius: usize) -> Vec<u8> {
+    let side = 2 * radius + 1;
+    let entries = side * side;
+    let bell = |at: usize| 1 + radius - at.abs_diff(radius);
+    match random.below(6) {
+        0 => psf_of_sum(random, entries, 1),
+        1 => (0..4).fold(vec![0; entries], |mut psf, _| {
+            psf[random.below(entries)] = random.within(1, 255) as u8;
+            psf
+        }),
+        2 | 3 => (0..entries).map(|at| (bell(at / side) * bell(at % side)) as u8).collect(),
+        4 => {
+            let sum = random.within(1, 3 * entries);
+            psf_of_sum(random, entries, sum)
+        }
+        _ => psf_of_sum(random, entries, 1024.min(255 * entries)),
+    }
+}
+
+/// Entries of a given sum, poured into random places.
+fn psf_of_sum(random: &mut Random, entries: usize, sum: usize) -> Vec<u8> {
+    let mut psf = vec![0; entries];
+    let mut left = sum;
+    while left > 0 {
+        let at = random.below(entries);
+        let room = left.min(255 - usize::from(psf[at]));
+        let part = random.within(0, room);
+        psf[at] += part as u8;
+        left -= part;
+    }
+    psf
+}
+
+/// Gray: any, one value for all, black and paper, or near the middle.
+fn gray(random: &mut Random, cells: usize) -> Vec<u8> {
+    let one = random.any() as u8;
+    let kind = random.below(4);
+    let cell = |_| match kind {
+        0 => random.any() as u8,
+        1 => one,
+        2 => random.pick(&[0, 255]),
+        _ => random.pick(&[126, 127, 128, 129]),
+    };
+    (0..cells).map(cell).collect()
+}
+
+/// Dots: any, all blank, all dots, few.
+fn dots(random: &mut Random, cells: usize) -> Vec<u8> {
+    let kind = random.below(6);
+    let cell = |_| match kind {
+        0 => 0,
+        1 => 1,
+        2 => u8::from(random.one_in(8)),
+        _ => random.below(2) as u8,
+    };
+    (0..cells).map(cell).collect()
+}
+
+/// What no call refuses: a plate of the size given, its table, and stats that it could have come to. What a call only
+/// writes holds anything.
+pub fn handed(random: &mut Random, (width, height): (usize, usize)) -> Handed {
+    let radius = random.below(4);
+    let mut handed = Handed { width, height, radius, ..Handed::default() };
+    handed.reach = random.pick(&[0, 1, 1, 2, 2, 3, 3, 4, 5, 6, 6]);
+    handed.start = random.below(3);
+    handed.psf = psf(random, radius);
+    handed.gray = gray(random, width * height);
+    handed.dots = dots(random, width * height);
+    (handed.row, handed.col) = (random.below(height), random.below(width));
+    (handed.row2, handed.col2) = partner(random, &handed, true);
+    if radius > 0 && handed.cells() > 1 && random.one_in(8) {
+        tie(&mut handed);
+    }
+    handed.table = Plate::new(&handed, None).filtered_error().into_iter().map(|t| t as i32).collect();
+    handed.stats = stats(random, &handed);
+    handed.autocorrelation = (0..(4 * radius + 1).pow(2)).map(|_| random.any() as i32).collect();
+    (handed.error, handed.change) = (random.any() as i64, random.any() as i64);
+    (handed.changes, handed.scans) = (random.any(), random.any());
+    (handed.length, handed.offset) = (random.any() as usize, random.any() as usize);
+    handed
+}
+
+/// Takes a psf of two ones side by side, and grays with which a toggle of the named cell changes nothing, if there are any.
+fn tie(handed: &mut Handed) {
+    let (side, middle) = (2 * handed.radius + 1, handed.psf.len() / 2);
+    let (in_row, cell) = (handed.width > 1, (handed.row, handed.col));
+    handed.psf.fill(0);
+    (handed.psf[middle], handed.psf[middle + if in_row { 1 } else { side }]) = (1, 1);
+    let at = handed.row * handed.width + handed.col;
+    let beside = if at > 0 { at - 1 } else { at + 1 };
+    for _ in 0..2 {
+        handed.gray[beside] ^= 1;
+        // the change rises or falls evenly with the gray
+        let [paper, next] = [0, 1].map(|gray| {
+            handed.gray[at] = gray;
+            Plate::new(handed, None).change(&[cell])
+        });
+        let tied = u8::try_from(paper / (paper - next));
+        if let (0, Ok(gray)) = (paper % (paper - next), tied) {
+            handed.gray[at] = gray;
+            return;
+        }
+    }
+}
+
+fn dot_total(handed: &Handed) -> i64 {
+    handed.dots.iter().map(|&dot| i64::from(dot)).sum()
+}
+
+/// Valid stats for the dots of this plate: some changes on the way to it, and the fall of E that they need.
+fn stats(random: &mut Random, handed: &Handed) -> Vec<i64> {
+    let (cells, count) = (handed.cells() as i64, dot_total(handed));
+    let error = Plate::new(handed, None).sum_of_squares();
+    let mut stats = vec![error, error, count, 0, 0, 0];
+    if random.one_in(3) {
+        return stats;
+    }
+    stats[OFF] = random.below(5) as i64;
+    stats[ON] = (random.below(5) as i64).min(count + stats[OFF]);
+    stats[OFF] = stats[OFF].min(cells - count + stats[ON]);
+    stats[SWAPS] = random.pick(&[0, 1, 2, 1000]);
+    stats[START_DOTS] = count - stats[ON] + stats[OFF];
+    let least = 255 * (stats[ON] + stats[OFF] + stats[SWAPS]);
+    let more = random.pick(&[0, 0, 1, 12_345]);
+    stats[START_ERROR] = (error + least + more).min(MAX_ERROR);
+    stats
+}
+
+/// A second cell for a swap, on the plate and within the reach, and where one is soon found with a dot that differs from
+/// that of the first cell, or with an equal one.
+fn partner(random: &mut Random, handed: &Handed, differs: bool) -> Cell {
+    let mut near = |from: usize, size: usize| {
+        let least = from.saturating_sub(handed.reach);
+        random.within(least, (from + handed.reach).min(size - 1))
+    };
+    let dot = |(row, col): Cell| handed.dots[row * handed.width + col];
+    let first = (handed.row, handed.col);
+    let cells = (0..8).map(|_| (near(first.0, handed.height), near(first.1, handed.width)));
+    let others: Vec<Cell> = cells.filter(|&cell| cell != first).collect();
+    let wanted = others.iter().find(|&&cell| (dot(cell) != dot(first)) == differs);
+    *wanted.or(others.first()).unwrap_or(&first)
+}
+
+/// Names cells of the plate, sometimes cells that an attempt refuses.
+pub fn name_cells(random: &mut Random, handed: &mut Handed) {
+    (handed.row, handed.col) = (random.below(handed.height), random.below(handed.width));
+    let differs = !random.one_in(8);
+    (handed.row2, handed.col2) = partner(random, handed, differs);
+    if random.one_in(16) {
+        name_off_plate(random, handed);
+    }
+    if random.one_in(16) {
+        name_beyond_reach(random, handed);
+    }
+}
+
+/// What a call can be handed, with none, one or two damages, each aimed at one refusal of this call. Two are often aimed at
+/// neighbours in the order of refusals.
+pub fn damaged(random: &mut Random, call: Call) -> Handed {
+    let size = size(random);
+    let mut handed = handed(random, size);
+    if call == Call::Start {
+        handed.table.fill_with(|| random.any() as i32);
+        handed.stats.fill_with(|| random.any() as i64);
+        if handed.start < 2 {
+            handed.dots = random.bytes(handed.dots.len());
+        }
+    }
+    if call.is_later() && random.one_in(6) {
+        misstate(random, &mut handed);
+        let differs = !random.one_in(3);
+        (handed.row2, handed.col2) = partner(random, &handed, differs);
+        return handed;
+    }
+    let refusals = call.refusals();
+    let first = random.below(refusals.len());
+    let second = if random.one_in(2) { random.below(refusals.len()) } else { (first + 1) % refusals.len() };
+    let aims = random.pick(&[0, 0, 0, 1, 1, 2, 2, 2]);
+    // the higher number first: its damage needs what that of the lower one takes away
+    let mut aimed = [refusals[first], refusals[second]][..aims].to_vec();
+    aimed.sort_by_key(|&number| Reverse(number));
+    aimed.dedup();
+    aimed.into_iter().for_each(|number| damage(random, call, number, &mut handed));
+    handed
+}
+
+/// Sizes far above every limit, one of them a small number to whoever keeps 32 bits.
+fn huge(random: &mut Random, small: usize) -> usize {
+    random.pick(&[usize::MAX, 1 << 32, 1 << 63, 65_537, 1 << 32 | small, 1 << 16 | small])
+}
+
+/// One damage that mostly makes a call draw this number.
+fn damage(random: &mut Random, call: Call, number: u32, handed: &mut Handed) {
+    let far = random.one_in(4);
+    match number {
+        1 => outsize(random, handed),
+        2 if far => handed.radius = huge(random, handed.radius),
+        2 => {
+            handed.radius = 4;
+            handed.psf = psf_of_sum(random, 81, 1024);
+            handed.autocorrelation.resize(289, 5);
+        }
+        3 => handed.reach = if far { huge(random, handed.reach) } else { 7 },
+        4 => handed.start = if far { huge(random, handed.start) } else { 3 },
+        5 => change_length(random, call, handed),
+        6 => {
+            let most = 255 * handed.psf.len();
+            let sum = random.pick(&[0, 1025.min(most), most]);
+            handed.psf = psf_of_sum(random, handed.psf.len(), sum);
+        }
+        7 => {
+            handed.start = if random.one_in(2) { 2 } else { handed.start };
+            let at = random.below(handed.dots.len());
+            handed.dots[at] = random.pick(&[2, 3, 128, 254, 255]);
+        }
+        8 => name_off_plate(random, handed),
+        9 => {
+            handed.reach = handed.reach.min(random.below(3));
+            name_beyond_reach(random, handed);
+        }
+        20 => {
+            let any = random.below(handed.table.len());
+            let at = random.pick(&[0, any, handed.table.len() - 1]);
+            handed.table[at] = handed.table[at].wrapping_add(random.pick(&[1, -1, 256, i32::MIN]));
+        }
+        21 => misstate(random, handed),
+        22 => (handed.row2, handed.col2) = partner(random, handed, false),
+        _ => {}
+    }
+}
+
+/// A width or height that is out of range; with 257 also slices that fit it.
+fn outsize(random: &mut Random, handed: &mut Handed) {
+    let mut other = |size: usize| match random.below(4) {
+        0 => huge(random, size),
+        1 => random.pick(&[0, 258]),
+        _ => 257,
+    };
+    if handed.width < handed.height {
+        handed.height = other(handed.height);
+    } else {
+        handed.width = other(handed.width);
+    }
+    let psf_fits = handed.radius < 5 && handed.psf.len() == (2 * handed.radius + 1).pow(2);
+    if handed.width.max(handed.height) == 257 && psf_fits {
+        let cells = handed.cells();
+        (handed.gray, handed.dots) = (vec![9; cells], vec![0; cells]);
+        let plate = Plate::new(handed, None);
+        handed.table = plate.filtered_error().into_iter().map(|t| t as i32).collect();
+        handed.stats = vec![plate.sum_of_squares(), plate.sum_of_squares(), 0, 0, 0, 0];
+    }
+}
+
+/// Another length for one of the slices that this call is lent.
+fn change_length(random: &mut Random, call: Call, handed: &mut Handed) {
+    fn resize<T: Copy + From<u8>>(random: &mut Random, buffer: &mut Vec<T>) {
+        let length = buffer.len();
+        let others = [0, length - 1, length + 1, 2 * length, length + 256];
+        buffer.resize(random.pick(&others), T::from(1));
+    }
+    let slices: &[_] = match call {
+        Call::Autocorrelation => &[0, 5],
+        Call::SquaredError | Call::WriteSheet => &[0, 1, 2],
+        Call::FilteredError => &[0, 1, 2, 3],
+        _ => &[0, 1, 2, 3, 4],
+    };
+    match random.pick(slices) {
+        0 => resize(random, &mut handed.psf),
+        1 => resize(random, &mut handed.gray),
+        2 => resize(random, &mut handed.dots),
+        3 => resize(random, &mut handed.table),
+        4 => resize(random, &mut handed.stats),
+        _ => resize(random, &mut handed.autocorrelation),
+    }
+}
+
+/// One figure of the stats off by one, at a limit, above it or below 0; or a whole ledger at or just beyond a limit.
+fn misstate(random: &mut Random, handed: &mut Handed) {
+    let (cells, count) = (handed.cells() as i64, dot_total(handed));
+    let (at, beyond) = (random.below(STATS), random.below(2) as i64);
+    let (error, figure) = (handed.stats[ERROR], handed.stats[at]);
+    let limit = match at {
+        START_ERROR | ERROR => MAX_ERROR,
+        START_DOTS => cells,
+        _ => MAX_COUNT,
+    };
+    match random.below(8) {
+        0 => handed.stats[at] = figure - 1,
+        1 => handed.stats[at] = figure + 1,
+        2 => handed.stats[at] = random.pick(&[limit, limit + 1, -1, i64::MIN, i64::MAX, 1 << 62]),
+        3 => handed.stats[random.within(ON, SWAPS)] = -1,
+        4 => handed.stats = vec![MAX_ERROR + beyond, error, count, 0, 0, 0],
+        5 => handed.stats = vec![MAX_ERROR, error, cells + beyond, 0, cells + beyond - count, 0],
+        6 => handed.stats = vec![MAX_ERROR, error, -beyond, count + beyond, 0, 0],
+        _ => handed.stats = vec![error + 255 * 3 - beyond, error, count, 1, 1, 1],
+    }
+}
+
+/// A cell off the plate.
+fn name_off_plate(random: &mut Random, handed: &mut Handed) {
+    let mut off = |size: usize| random.pick(&[size, size, size + 1, usize::MAX, 1 << 32]);
+    let (row, col) = (off(handed.height), off(handed.width));
+    match random.below(4) {
+        0 => handed.row = row,
+        1 => handed.col = col,
+        2 => handed.row2 = row,
+        _ => handed.col2 = col,
+    }
+}
+
+/// A swap of a cell with itself, or with one just beyond the reach.
+fn name_beyond_reach(random: &mut Random, handed: &mut Handed) {
+    match random.below(3) {
+        0 => (handed.row2, handed.col2) = (handed.row, handed.col),
+        1 => (handed.row, handed.row2) = (0, handed.reach + 1),
+        _ => (handed.col, handed.col2) = (handed.reach + 1, 0),
+    }
+}
+
+/// A sheet of the plate's numbers, of its kind of start, and slices to read it into, which hold anything: long enough,
+/// longer, or sometimes one too short.
+pub fn lend_for_reading(random: &mut Random, handed: &mut Handed) {
+    handed.bytes = sheet::text(handed, handed.start);
+    let mut other = |length: usize| {
+        let length = match random.below(24) {
+            0 => length - 1,
+            1 => 0,
+            2..=8 => length + random.below(9),
+            _ => length,
+        };
+        random.bytes(length)
+    };
+    handed.psf = other(handed.psf.len());
+    handed.gray = other(handed.gray.len());
+    handed.dots = other(handed.dots.len());
+    handed.measures = vec![random.below(1000); if random.one_in(40) { random.below(8) } else { MEASURES }];
+}
+
+/// The bytes that a damage puts into a sheet.
+const BYTES: [u8; 14] = *b"0129 \npgdx\r\x00\xff:";
+
+/// Damages a sheet at one random place, now and then the start of line 3.
+pub fn damage_sheet(random: &mut Random, sheet: &mut Vec<u8>) {
+    let third = sheet.windows(2).position(|pair| pair == b"\np").map_or(0, |at| at + 1);
+    let at = if random.one_in(6) { third } else { random.below(sheet.len() + 1) };
+    if at == sheet.len() {
+        return sheet.push(random.pick(&BYTES));
+    }
+    match random.below(5) {
+        0 => sheet[at] = random.pick(&BYTES),
+        1 => sheet.insert(at, random.pick(&BYTES)),
+        2 => drop(sheet.remove(at)),
+        3 => sheet.truncate(at),
+        _ => change_number(random, sheet),
+    }
+}
+
+/// Puts another number into a sheet, mostly one too large, of many digits or with leading zeros.
+fn change_number(random: &mut Random, sheet: &mut Vec<u8>) {
+    const NUMBERS: [&[u8]; 18] = [
+        b"0",
+        b"1",
+        b"2",
+        b"3",
+        b"4",
+        b"6",
+        b"7",
+        b"255",
+        b"256",
+        b"257",
+        b"1000",
+        b"00",
+        b"01",
+        b"000000000000000000000000000255",
+        b"4294967297",
+        b"18446744073709551617",
+        b"340282366920938463463374607431768211457",
+        b"0x",
+    ];
+    let starts: Vec<usize> =
+        (1..sheet.len()).filter(|&at| sheet[at].is_ascii_digit() && !sheet[at - 1].is_ascii_digit()).collect();
+    if starts.is_empty() {
+        return;
+    }
+    let most = if random.one_in(2) { starts.len().min(MEASURES) } else { starts.len() };
+    let start = starts[random.below(most)];
+    let digits = sheet[start..].iter().take_while(|byte| byte.is_ascii_digit()).count();
+    sheet.splice(start..start + digits, random.pick(&NUMBERS).iter().copied());
+}
+
+/// Every damage of one byte at every place of a sheet: replaced, inserted, deleted, and cut off there.
+pub fn all_damages(sheet: &[u8]) -> Vec<Vec<u8>> {
+    let mut damaged = Vec::new();
+    for at in 0..=sheet.len() {
+        let (front, back) = sheet.split_at(at);
+        damaged.push(front.to_vec());
+        damaged.extend(BYTES.iter().map(|&byte| [front, &[byte], back].concat()));
+        if let Some((_, rest)) = back.split_first() {
+            damaged.push([front, rest].concat());
+            damaged.extend(BYTES.iter().map(|&byte| [front, &[byte], rest].concat()));
+        }
+    }
+    damaged
+}

@@ -1,0 +1,145 @@
+//! The calls of the header, and one record of everything that a call can be handed and can write.
+
+/// A row and a column.
+pub type Cell = (usize, usize);
+
+/// The calls, in the header's order.
+#[derive(Clone, Copy, PartialEq, Eq, Debug)]
+pub enum Call {
+    Autocorrelation,
+    FilteredError,
+    SquaredError,
+    Start,
+    TryToggle,
+    TrySwap,
+    ToggleScan,
+    SwapScan,
+    Converge,
+    ReadSheet,
+    WriteSheet,
+}
+
+impl Call {
+    pub const ALL: [Call; 11] = [
+        Call::Autocorrelation,
+        Call::FilteredError,
+        Call::SquaredError,
+        Call::Start,
+        Call::TryToggle,
+        Call::TrySwap,
+        Call::ToggleScan,
+        Call::SwapScan,
+        Call::Converge,
+        Call::ReadSheet,
+        Call::WriteSheet,
+    ];
+
+    /// Later calls are those handed a table and a ledger.
+    pub fn is_later(self) -> bool {
+        use Call::*;
+        matches!(self, TryToggle | TrySwap | ToggleScan | SwapScan | Converge)
+    }
+
+    /// Whether the call is handed width and height.
+    pub fn is_sized(self) -> bool {
+        self != Call::Autocorrelation
+    }
+
+    /// Whether the call is handed all five measures.
+    pub fn is_measured(self) -> bool {
+        self.is_later() || matches!(self, Call::Start | Call::WriteSheet)
+    }
+
+    /// The cells that an attempt names.
+    pub fn named(self, handed: &Handed) -> Vec<Cell> {
+        let cells = [(handed.row, handed.col), (handed.row2, handed.col2)];
+        match self {
+            Call::TryToggle => cells[..1].to_vec(),
+            Call::TrySwap => cells.to_vec(),
+            _ => Vec::new(),
+        }
+    }
+
+    /// Every refusal that the call draws.
+    pub fn refusals(self) -> &'static [u32] {
+        match self {
+            Call::Autocorrelation => &[2, 5, 6],
+            Call::FilteredError | Call::SquaredError => &[1, 2, 5, 6, 7],
+            Call::Start => &[1, 2, 3, 4, 5, 6, 7],
+            Call::TryToggle => &[1, 2, 3, 4, 5, 6, 7, 8, 20, 21],
+            Call::TrySwap => &[1, 2, 3, 4, 5, 6, 7, 8, 9, 20, 21, 22],
+            Call::ToggleScan | Call::SwapScan | Call::Converge => &[1, 2, 3, 4, 5, 6, 7, 20, 21],
+            Call::ReadSheet => &[5, 10, 11, 12],
+            Call::WriteSheet => &[1, 2, 3, 4, 5, 7, 12],
+        }
+    }
+}
+
+/// The numbers in stats (the ledger).
+pub const START_ERROR: usize = 0;
+pub const ERROR: usize = 1;
+pub const START_DOTS: usize = 2;
+pub const ON: usize = 3;
+pub const OFF: usize = 4;
+pub const SWAPS: usize = 5;
+pub const STATS: usize = 6;
+/// How many measures a sheet has.
+pub const MEASURES: usize = 5;
+
+/// What a call is handed and where it writes. Each call takes its own part; the remainder has to stay as it is.
+#[derive(Clone, PartialEq, Debug, Default)]
+pub struct Handed {
+    pub width: usize,
+    pub height: usize,
+    pub radius: usize,
+    pub reach: usize,
+    pub start: usize,
+    pub psf: Vec<u8>,
+    pub gray: Vec<u8>,
+    pub dots: Vec<u8>,
+    pub table: Vec<i32>,
+    pub stats: Vec<i64>,
+    pub row: usize,
+    pub col: usize,
+    pub row2: usize,
+    pub col2: usize,
+    pub autocorrelation: Vec<i32>,
+    pub error: i64,
+    pub change: i64,
+    pub changes: u64,
+    pub scans: u64,
+    pub bytes: Vec<u8>,
+    pub measures: Vec<usize>,
+    pub out: Vec<u8>,
+    pub length: usize,
+    pub offset: usize,
+}
+
+impl Handed {
+    pub fn cells(&self) -> usize {
+        self.width * self.height
+    }
+
+    /// The accepted changes that the stats count.
+    pub fn accepted(&self) -> i64 {
+        self.stats[ON] + self.stats[OFF] + self.stats[SWAPS]
+    }
+
+    /// The values that differ from another record's, named by field and entry: at most 20 of them.
+    pub fn differences(&self, other: &Handed) -> String {
+        let (own, others) = (format!("{self:#?}"), format!("{other:#?}"));
+        let (mut field, mut first) = ("", 0);
+        let mut differences = Vec::new();
+        for (line, (a, b)) in own.lines().zip(others.lines()).enumerate() {
+            if let Some(name) = a.strip_prefix("    ").filter(|name| !name.starts_with([' ', ']'])) {
+                (field, first) = (name.split(':').next().unwrap(), line + 1);
+            }
+            if a != b {
+                let entry = (line + 1 - first).saturating_sub(1);
+                differences.push(format!("{field}[{entry}] is {} and {}", a.trim(), b.trim()));
+            }
+        }
+        differences.truncate(20);
+        differences.join(" ")
+    }
+}

@@ -1,0 +1,540 @@
+//! The calls of document 01 save those for sheets, from its plain sums. The plate here is document 01's plain plate: it has
+//! no table. Wherever a table or a squared error is wanted, the sum is taken over the dots.
+
+use crate::fault::Fault;
+use crate::handed::{Call, Cell, Handed, ERROR, OFF, ON, START_DOTS, START_ERROR, STATS, SWAPS};
+use std::cmp::Reverse;
+
+/// The largest squared error.
+pub const MAX_ERROR: i64 = 4_468_483_974_758_400;
+/// The largest count in a ledger.
+pub const MAX_COUNT: i64 = 1 << 44;
+
+/// The refusals because of the input save those of a sheet, then those because of the state, in their order.
+pub const ORDER: [u32; 12] = [1, 2, 3, 4, 5, 6, 7, 8, 9, 20, 21, 22];
+
+/// The second implementation, right or with one mistake.
+#[derive(Clone, Copy, Default)]
+pub struct Second {
+    pub fault: Option<Fault>,
+}
+
+/// Draws a refusal where its condition holds.
+pub fn refuse(number: u32, drawn: bool) -> Result<(), u32> {
+    if drawn {
+        Err(number)
+    } else {
+        Ok(())
+    }
+}
+
+/// The autocorrelation: c(d) = sum over offsets k of p(k) * p(k + d), d rising from -2r row by row.
+pub fn autocorrelation(radius: usize, psf: &[i64]) -> Vec<i64> {
+    let r = radius as isize;
+    let p = |row: isize, col: isize| {
+        let inside = row.abs() <= r && col.abs() <= r;
+        if inside {
+            psf[((row + r) * (2 * r + 1) + col + r) as usize]
+        } else {
+            0
+        }
+    };
+    let c = |down, right| square(r).map(|(row, col)| p(row, col) * p(row + down, col + right)).sum();
+    square(2 * r).map(|(down, right)| c(down, right)).collect()
+}
+
+/// All offsets with both coordinates from -q to q, row by row.
+fn square(q: isize) -> impl Iterator<Item = (isize, isize)> {
+    (-q..=q).flat_map(move |down| (-q..=q).map(move |right| (down, right)))
+}
+
+fn transposed(psf: &[i64], radius: usize) -> Vec<i64> {
+    let side = 2 * radius + 1;
+    (0..side * side).map(|at| psf[at % side * side + at / side]).collect()
+}
+
+/// An entry of the 16 by 16 Bayer array, by the bits of row and column.
+pub fn threshold(row: usize, col: usize) -> u32 {
+    let bit = |number: usize, i: u32| number >> i & 1;
+    let d = |i| match (bit(row, i), bit(col, i)) {
+        (0, 0) => 0,
+        (0, 1) => 2,
+        (1, 0) => 3,
+        _ => 1,
+    };
+    (0..4).map(|i| d(i) * 4u32.pow(3 - i)).sum()
+}
+
+/// The partners of a swap scan: by falling sum of squares, then smaller row offset, then smaller column offset.
+pub fn partners(reach: usize) -> Vec<(isize, isize)> {
+    let mut offsets: Vec<_> = square(reach as isize).filter(|&d| d != (0, 0)).collect();
+    offsets.sort_by_key(|&(down, right)| (Reverse(down * down + right * right), down, right));
+    offsets
+}
+
+/// The plain plate: measures, psf, gray and dots, and the three counts.
+#[derive(Clone)]
+pub struct Plate {
+    width: usize,
+    height: usize,
+    radius: usize,
+    reach: usize,
+    psf: Vec<i64>,
+    gray: Vec<u8>,
+    dots: Vec<u8>,
+    /// the error of each cell, with a margin of 2r cells of 0 all round
+    errors: Vec<i64>,
+    on: i64,
+    off: i64,
+    swaps: i64,
+    fault: Option<Fault>,
+}
+
+impl Plate {
+    /// The plate with the dots handed, all counts 0.
+    pub fn new(handed: &Handed, fault: Option<Fault>) -> Plate {
+        let margin = 4 * handed.radius;
+        let mut plate = Plate {
+            width: handed.width,
+            height: handed.height,
+            radius: handed.radius,
+            reach: handed.reach,
+            psf: handed.psf.iter().map(|&entry| i64::from(entry)).collect(),
+            gray: handed.gray.clone(),
+            dots: handed.dots.clone(),
+            errors: vec![0; (handed.width + margin) * (handed.height + margin)],
+            on: 0,
+            off: 0,
+            swaps: 0,
+            fault,
+        };
+        plate.all_cells().for_each(|cell| plate.take_error(cell));
+        plate
+    }
+
+    /// All cells in raster order.
+    fn all_cells(&self) -> impl Iterator<Item = Cell> {
+        let width = self.width;
+        (0..self.width * self.height).map(move |at| (at / width, at % width))
+    }
+
+    fn at(&self, (row, col): Cell) -> usize {
+        row * self.width + col
+    }
+
+    pub fn dot(&self, cell: Cell) -> u8 {
+        self.dots[self.at(cell)]
+    }
+
+    fn dot_total(&self) -> i64 {
+        self.dots.iter().map(|&dot| i64::from(dot)).sum()
+    }
+
+    /// The cell at an offset, unless it is off the plate.
+    fn moved(&self, (row, col): Cell, (down, right): (isize, isize)) -> Option<Cell> {
+        let row = row.checked_add_signed(down).filter(|&row| row < self.height)?;
+        let col = col.checked_add_signed(right).filter(|&col| col < self.width)?;
+        Some((row, col))
+    }
+
+    /// Where a place stands in the errors, its row and column counted from the margin's corner.
+    fn place(&self, row: usize, col: usize) -> usize {
+        row * (self.width + 4 * self.radius) + col
+    }
+
+    /// The error of a cell is e = 255 * dot - gray.
+    fn take_error(&mut self, (row, col): Cell) {
+        let at = self.at((row, col));
+        let place = self.place(row + 2 * self.radius, col + 2 * self.radius);
+        self.errors[place] = 255 * i64::from(self.dots[at]) - i64::from(self.gray[at]);
+    }
+
+    fn error(&self, (row, col): Cell) -> i64 {
+        self.errors[self.place(row + 2 * self.radius, col + 2 * self.radius)]
+    }
+
+    /// The autocorrelation of this plate's psf.
+    fn c(&self) -> Vec<i64> {
+        match self.fault {
+            Some(Fault::PsfTransposed) => autocorrelation(self.radius, &transposed(&self.psf, self.radius)),
+            _ => autocorrelation(self.radius, &self.psf),
+        }
+    }
+
+    /// The table: T(m) = sum over all cells n of c(n - m) * e(n). Beyond the plate error counts as 0.
+    pub fn filtered_error(&self) -> Vec<i64> {
+        let c = self.c();
+        let side = 4 * self.radius + 1;
+        let from = |row, col| self.errors[self.place(row, col)..][..side].iter();
+        let row_sum = |at: usize, row, col| from(row, col).zip(&c[at * side..]).map(|(e, c)| e * c).sum::<i64>();
+        let sum = |(row, col): Cell| (0..side).map(|at| row_sum(at, row + at, col)).sum();
+        match self.fault {
+            Some(Fault::Folded) => self.all_cells().map(|cell| self.folded_sum(&c, cell)).collect(),
+            _ => self.all_cells().map(sum).collect(),
+        }
+    }
+
+    /// T(m) on a plate that is folded round at its edges, a mistake.
+    fn folded_sum(&self, c: &[i64], (row, col): Cell) -> i64 {
+        let fold = |from: usize, step: isize, size: usize| (from as isize + step).rem_euclid(size as isize) as usize;
+        let error = |(down, right)| self.error((fold(row, down, self.height), fold(col, right, self.width)));
+        square(2 * self.radius as isize).map(error).zip(c).map(|(e, c)| e * c).sum()
+    }
+
+    /// E = sum of e(m) * T(m).
+    pub fn squared_error(&self) -> i64 {
+        let table = self.filtered_error();
+        self.all_cells().zip(table).map(|(cell, t)| self.error(cell) * t).sum()
+    }
+
+    /// The spread-out error: sum over n of e(n) * p(x - n), x a cell of the plate widened by r on each side.
+    fn spread_out(&self, (row, col): Cell) -> i64 {
+        let side = 2 * self.radius + 1;
+        let row_sum = |down: usize| {
+            let errors = &self.errors[self.place(row + down, col)..][..side];
+            let psf = &self.psf[(side - 1 - down) * side..][..side];
+            errors.iter().zip(psf.iter().rev()).map(|(e, p)| e * p).sum::<i64>()
+        };
+        (0..side).map(row_sum).sum()
+    }
+
+    /// E again: the sum of the squares of the spread-out error over the widened plate.
+    pub fn sum_of_squares(&self) -> i64 {
+        let (high, wide) = (self.height + 2 * self.radius, self.width + 2 * self.radius);
+        (0..high * wide).map(|at| self.spread_out((at / wide, at % wide)).pow(2)).sum()
+    }
+
+    /// The part of that sum that these cells have to do with: the cells of the widened plate within r of one of them.
+    fn squares_near(&self, cells: &[Cell]) -> i64 {
+        let r = self.radius;
+        let near = |(row, col): Cell, x: Cell| (row..=row + 2 * r).contains(&x.0) && (col..=col + 2 * r).contains(&x.1);
+        let mut sum = 0;
+        for (at, &(row, col)) in cells.iter().enumerate() {
+            let window = (row..=row + 2 * r).flat_map(|x| (col..=col + 2 * r).map(move |y| (x, y)));
+            let fresh = window.filter(|&x| !cells[..at].iter().any(|&cell| near(cell, x)));
+            sum += fresh.map(|x| self.spread_out(x).pow(2)).sum::<i64>();
+        }
+        sum
+    }
+
+    /// Turns these dots over: one is a toggle, two unlike dots are a swap.
+    fn turn(&mut self, cells: &[Cell]) {
+        for &cell in cells {
+            let at = self.at(cell);
+            self.dots[at] = 1 - self.dots[at];
+            self.take_error(cell);
+        }
+    }
+
+    /// The change of E if these dots are turned: the squares near them after it less those before it.
+    pub fn change(&mut self, cells: &[Cell]) -> i64 {
+        if self.fault == Some(Fault::OffsetDropped) && cells.len() == 2 {
+            return cells.iter().map(|&cell| self.change(&[cell])).sum();
+        }
+        let before = self.squares_near(cells);
+        self.turn(cells);
+        let after = self.squares_near(cells);
+        self.turn(cells);
+        after - before
+    }
+
+    /// The same by the whole sum: the copy's E less the E before.
+    pub fn change_of_whole_sum(&self, cells: &[Cell]) -> i64 {
+        let mut copy = self.clone();
+        copy.turn(cells);
+        copy.squared_error() - self.squared_error()
+    }
+
+    /// Turns the dots, and the one matching count rises by 1.
+    fn accept(&mut self, cells: &[Cell]) {
+        let on = self.dot(cells[0]) == 0 || self.fault == Some(Fault::OnForOff);
+        match (cells.len(), on) {
+            (1, true) => self.on += 1,
+            (1, false) => self.off += 1,
+            _ => self.swaps += 1,
+        }
+        self.turn(cells);
+    }
+
+    /// One attempt: accepted exactly when it lowers E. Answers the change.
+    fn attempt(&mut self, cells: &[Cell]) -> i64 {
+        let change = self.change(cells);
+        if change < 0 {
+            self.accept(cells);
+        }
+        change
+    }
+
+    /// A toggle attempt at every cell in raster order. Answers the accepted changes.
+    fn toggle_scan(&mut self) -> u64 {
+        self.all_cells().filter(|&cell| self.attempt(&[cell]) < 0).count() as u64
+    }
+
+    /// The partners of this plate's reach.
+    fn partners(&self) -> Vec<(isize, isize)> {
+        let mut offsets = partners(self.reach);
+        match self.fault {
+            Some(Fault::PartnersReversed) => offsets.reverse(),
+            Some(Fault::PartnersMirrored) => offsets.iter_mut().for_each(|d| d.1 = -d.1),
+            _ => {}
+        }
+        offsets
+    }
+
+    /// At every cell the first partner that lowers E. Answers the accepted changes.
+    fn swap_scan(&mut self) -> u64 {
+        let partners = self.partners();
+        let mut changes = 0;
+        for cell in self.all_cells() {
+            for &offset in &partners {
+                let Some(partner) = self.moved(cell, offset) else {
+                    continue;
+                };
+                if self.dot(partner) == self.dot(cell) || self.attempt(&[cell, partner]) >= 0 {
+                    continue;
+                }
+                changes += 1;
+                if self.fault != Some(Fault::CellNotLeft) {
+                    break;
+                }
+            }
+        }
+        changes
+    }
+
+    /// Toggle scans until one accepts nothing, then one swap scan; if that accepted something, again. Answers the scans.
+    fn converge(&mut self) -> u64 {
+        let mut scans = 0;
+        loop {
+            scans += 1;
+            if self.toggle_scan() > 0 {
+                continue;
+            }
+            scans += 1;
+            if self.swap_scan() == 0 || self.fault == Some(Fault::StopsAfterSwaps) {
+                return scans - u64::from(self.fault == Some(Fault::LastScanNotCounted));
+            }
+        }
+    }
+
+    /// Whether no toggle and no swap within reach lowers E.
+    pub fn rests(&mut self) -> bool {
+        let partners = partners(self.reach);
+        self.all_cells().all(|cell| {
+            let swaps: Vec<_> = partners.iter().filter_map(|&offset| self.moved(cell, offset)).collect();
+            self.change(&[cell]) >= 0
+                && swaps
+                    .into_iter()
+                    .all(|partner| self.dot(partner) == self.dot(cell) || self.change(&[cell, partner]) >= 0)
+        })
+    }
+
+    /// Whether 2T is at least -255P at every blank and at most 255P at every dot.
+    pub fn within_half_peak(&self) -> bool {
+        let c = self.c();
+        let peak = c[c.len() / 2];
+        let outward = |(&dot, t): (&u8, i64)| if dot == 0 { -2 * t } else { 2 * t };
+        self.dots.iter().zip(self.filtered_error()).map(outward).all(|double| double <= 255 * peak)
+    }
+
+    /// What a toggle or swap adds to E by document 01's formulas, here only for a comparison with the sums.
+    pub fn change_by_formula(&self, cells: &[Cell]) -> i64 {
+        let (table, c) = (self.filtered_error(), self.c());
+        let t = |cell| table[self.at(cell)];
+        let s = if self.dot(cells[0]) == 0 { 1 } else { -1 };
+        let peak = c[c.len() / 2];
+        if cells.len() == 1 {
+            return 255 * (2 * s * t(cells[0]) + 255 * peak);
+        }
+        let reach = 2 * self.radius as isize;
+        let ((row, col), (row2, col2)) = (cells[0], cells[1]);
+        let offset = (row as isize - row2 as isize, col as isize - col2 as isize);
+        let c_offset = square(reach).zip(&c).find(|(d, _)| *d == offset).map_or(0, |(_, &c)| c);
+        510 * (s * (t(cells[0]) - t(cells[1])) + 255 * (peak - c_offset))
+    }
+}
+
+impl Second {
+    /// Makes a call: answers 0 or the refusal number, and leaves in the record what the call writes.
+    pub fn call(&self, call: Call, handed: &mut Handed) -> u32 {
+        let done = match call {
+            Call::ReadSheet => self.read_sheet(handed),
+            Call::WriteSheet => self.write_sheet(handed),
+            _ => self.judge(call, handed).map(|()| self.work(call, handed)),
+        };
+        done.err().unwrap_or(0)
+    }
+
+    fn has(&self, fault: Fault) -> bool {
+        self.fault == Some(fault)
+    }
+
+    /// Judges what a call is handed: least number first, then the state.
+    pub fn judge(&self, call: Call, handed: &Handed) -> Result<(), u32> {
+        let mut order = ORDER;
+        if let Some(Fault::Exchanged(at)) = self.fault {
+            order.swap(at, at + 1);
+        }
+        order.into_iter().try_for_each(|number| refuse(number, self.draws(number, call, handed)))
+    }
+
+    /// Whether a call draws this number, none of those before it being drawn. A call judges only what it is handed.
+    fn draws(&self, number: u32, call: Call, handed: &Handed) -> bool {
+        match number {
+            1 => call.is_sized() && (self.outside(handed.width) || self.outside(handed.height)),
+            2 => handed.radius > 3,
+            3 => call.is_measured() && handed.reach > 6,
+            4 => call.is_measured() && handed.start > 2,
+            5 => lengths(call, handed).iter().any(|(length, measure)| length != measure),
+            6 => call != Call::WriteSheet && self.sum_outside(&handed.psf),
+            7 => self.judges_dots(call, handed) && handed.dots.iter().any(|&dot| dot > 1),
+            8 => call.named(handed).iter().any(|&(row, col)| row >= handed.height || col >= handed.width),
+            9 => call == Call::TrySwap && self.beyond_reach(handed),
+            20 => call.is_later() && self.table_differs(handed),
+            21 => call.is_later() && self.ledger_differs(&Plate::new(handed, self.fault), &handed.stats),
+            _ => call == Call::TrySwap && equal_dots(handed),
+        }
+    }
+
+    /// 1: width or height outside 1 to 256.
+    fn outside(&self, size: usize) -> bool {
+        let largest = if self.has(Fault::Size257Taken) { 257 } else { 256 };
+        size < 1 || size > largest
+    }
+
+    /// 6: spread sum 0 or above 1,024.
+    fn sum_outside(&self, psf: &[u8]) -> bool {
+        let largest = if self.has(Fault::Sum1025Taken) { 1025 } else { 1024 };
+        let sum: usize = psf.iter().map(|&entry| usize::from(entry)).sum();
+        sum == 0 || sum > largest
+    }
+
+    /// 7 is for a start of kind 2, table, E, writer, and all later calls.
+    fn judges_dots(&self, call: Call, handed: &Handed) -> bool {
+        match call {
+            Call::Start => handed.start == 2 || self.has(Fault::DotsAlwaysJudged),
+            _ => call.is_sized(),
+        }
+    }
+
+    /// 9: swap of a cell with itself or with a row or column offset beyond the reach.
+    fn beyond_reach(&self, handed: &Handed) -> bool {
+        let down = handed.row.abs_diff(handed.row2);
+        let right = handed.col.abs_diff(handed.col2);
+        let itself = (down, right) == (0, 0) && !self.has(Fault::SameCellTaken);
+        itself || down > handed.reach || right > handed.reach && !self.has(Fault::ColumnBeyondReachTaken)
+    }
+
+    /// 20: a table entry differs from T.
+    fn table_differs(&self, handed: &Handed) -> bool {
+        let judged = handed.table.len() - usize::from(self.has(Fault::LastEntryNotJudged));
+        let table = Plate::new(handed, self.fault).filtered_error();
+        handed.table.iter().zip(table).take(judged).any(|(&entry, t)| i64::from(entry) != t)
+    }
+
+    /// The conditions of 21. A count below 0 counts as one above all limits (the header).
+    fn ledger_differs(&self, plate: &Plate, stats: &[i64]) -> bool {
+        let cells = (plate.width * plate.height) as i64;
+        let dots_limit = if self.has(Fault::StartDotsNotLimited) { i64::MAX } else { cells };
+        let error_limit = if self.has(Fault::StartErrorNotLimited) { i64::MAX } else { MAX_ERROR };
+        let least = if self.has(Fault::FallBy254) { 254 } else { 255 };
+        let count_taken = |&count: &i64| count <= MAX_COUNT && (count >= 0 || self.has(Fault::NegativeCountTaken));
+        let wide = |at: usize| i128::from(stats[at]);
+        stats[ERROR] != plate.squared_error()
+            || !(0..=error_limit).contains(&stats[START_ERROR])
+            || !stats[ON..=SWAPS].iter().all(count_taken)
+            || !(0..=dots_limit).contains(&stats[START_DOTS])
+            || i128::from(plate.dot_total()) != wide(START_DOTS) + wide(ON) - wide(OFF)
+            || least * (wide(ON) + wide(OFF) + wide(SWAPS)) > wide(START_ERROR) - wide(ERROR)
+    }
+
+    /// What a call does that is not refused.
+    fn work(&self, call: Call, handed: &mut Handed) {
+        match call {
+            Call::Autocorrelation => {
+                let psf: Vec<_> = handed.psf.iter().map(|&entry| i64::from(entry)).collect();
+                let psf = if self.has(Fault::PsfTransposed) { transposed(&psf, handed.radius) } else { psf };
+                handed.autocorrelation = narrow(autocorrelation(handed.radius, &psf));
+            }
+            Call::FilteredError => handed.table = narrow(Plate::new(handed, self.fault).filtered_error()),
+            Call::SquaredError => handed.error = Plate::new(handed, self.fault).squared_error(),
+            Call::Start => self.start(handed),
+            _ => self.later(call, handed),
+        }
+    }
+
+    /// A start writes dots, table and a fresh ledger with counts 0.
+    fn start(&self, handed: &mut Handed) {
+        let cells = (0..handed.cells()).map(|at| (at / handed.width, at % handed.width));
+        match handed.start {
+            0 => handed.dots.fill(0),
+            1 => {
+                handed.dots = cells.zip(&handed.gray).map(|(cell, &gray)| u8::from(self.screened(cell, gray))).collect()
+            }
+            _ => {}
+        }
+        let plate = Plate::new(handed, self.fault);
+        let error = plate.squared_error();
+        handed.stats = vec![error, error, plate.dot_total(), 0, 0, 0];
+        handed.table = narrow(plate.filtered_error());
+    }
+
+    /// A cell gets a dot exactly when 256 * gray > 255 * threshold.
+    fn screened(&self, (row, col): Cell, gray: u8) -> bool {
+        let (row, col) = if self.has(Fault::ThresholdTransposed) { (col, row) } else { (row, col) };
+        let limit = 255 * threshold(row % 16, col % 16);
+        256 * u32::from(gray) + u32::from(self.has(Fault::ThresholdReached)) > limit
+    }
+
+    /// An attempt, a scan or a settling, on from the counts handed.
+    fn later(&self, call: Call, handed: &mut Handed) {
+        let mut plate = Plate::new(handed, self.fault);
+        (plate.on, plate.off, plate.swaps) = (handed.stats[ON], handed.stats[OFF], handed.stats[SWAPS]);
+        match call {
+            Call::TryToggle | Call::TrySwap => handed.change = self.attempt(&mut plate, &call.named(handed)),
+            Call::ToggleScan => handed.changes = plate.toggle_scan(),
+            Call::SwapScan => handed.changes = plate.swap_scan(),
+            _ => handed.scans = plate.converge(),
+        }
+        handed.table = narrow(plate.filtered_error());
+        let (error, dots) = (plate.squared_error(), handed.stats[START_DOTS]);
+        handed.stats = vec![handed.stats[START_ERROR], error, dots, plate.on, plate.off, plate.swaps];
+        handed.dots = plate.dots;
+    }
+
+    fn attempt(&self, plate: &mut Plate, cells: &[Cell]) -> i64 {
+        let change = plate.attempt(cells);
+        if change == 0 && self.has(Fault::TiesAccepted) {
+            plate.accept(cells);
+        }
+        change
+    }
+}
+
+/// 22: swap attempt on equal dots.
+fn equal_dots(handed: &Handed) -> bool {
+    let plate = Plate::new(handed, None);
+    plate.dot((handed.row, handed.col)) == plate.dot((handed.row2, handed.col2))
+}
+
+/// The slices that a call is lent, each with its length and its measure. Called when 1 and 2 are not drawn.
+fn lengths(call: Call, handed: &Handed) -> Vec<(usize, usize)> {
+    let square = |side: usize| side * side;
+    let psf = (handed.psf.len(), square(2 * handed.radius + 1));
+    if call == Call::Autocorrelation {
+        return vec![psf, (handed.autocorrelation.len(), square(4 * handed.radius + 1))];
+    }
+    let cells = handed.cells();
+    let mut lengths = vec![psf, (handed.gray.len(), cells), (handed.dots.len(), cells)];
+    if call.is_later() || matches!(call, Call::Start | Call::FilteredError) {
+        lengths.push((handed.table.len(), cells));
+    }
+    if call.is_later() || call == Call::Start {
+        lengths.push((handed.stats.len(), STATS));
+    }
+    lengths
+}
+
+fn narrow(values: Vec<i64>) -> Vec<i32> {
+    values.into_iter().map(|value| i32::try_from(value).unwrap()).collect()
+}
