@@ -1,0 +1,58 @@
+//! Measures the library and the baseline in one run, and tests that both end with the same plates.
+//!
+//!     bench [--quick] [--markdown]
+//!     bench --count library|baseline KIND    one small settling, for a tool that counts instructions
+
+mod baseline;
+mod input;
+mod library;
+mod measure;
+mod plate;
+mod report;
+
+use baseline::Baseline;
+use library::Library;
+use measure::{job, settlings, Outcome, Scale};
+use plate::{Job, Plate, Side};
+use std::env;
+use std::process::ExitCode;
+
+fn main() -> ExitCode {
+    let words: Vec<String> = env::args().skip(1).collect();
+    let words: Vec<&str> = words.iter().map(String::as_str).collect();
+    match words[..] {
+        ["--count", "library", kind] => count(&Library, kind),
+        ["--count", "baseline", kind] => count(&Baseline, kind),
+        _ if words.iter().all(|word| ["--quick", "--markdown"].contains(word)) => compare(&words),
+        _ => {
+            eprintln!("usage: bench [--quick] [--markdown] | bench --count library|baseline KIND");
+            ExitCode::from(2)
+        }
+    }
+}
+
+/// One small settling by one side.
+fn count(side: &dyn Side, kind: &str) -> ExitCode {
+    let Ok(kind) = kind.parse() else {
+        return ExitCode::from(2);
+    };
+    let job = job(64, 3, 6, kind, input::noisy_ramp(64, 64));
+    let mut plate = Plate::cleared(job.cells());
+    side.start(&job, &mut plate);
+    println!("{} scans", side.settle(&job, &mut plate));
+    ExitCode::SUCCESS
+}
+
+fn compare(words: &[&str]) -> ExitCode {
+    let quick = words.contains(&"--quick");
+    let scale = if quick {
+        Scale { side: 64, repetitions: 1, calls: 4 }
+    } else {
+        Scale { side: 256, repetitions: 5, calls: 32 }
+    };
+    let outcomes = [settlings(&scale)];
+    for outcome in &outcomes {
+        outcome.table.print(words.contains(&"--markdown"));
+    }
+    ExitCode::SUCCESS
+}
