@@ -6,7 +6,10 @@ mod sums;
 
 use crate::plate::{Job, Plate, Side, ERROR, OFF, ON, START_DOTS};
 
-pub struct Baseline;
+/// With `any_first`, a swap scan goes through the partners of a cell only where a quick pass says that one will do.
+pub struct Baseline {
+    pub any_first: bool,
+}
 
 /// Whether the table and the stats are those of the dots.
 pub fn judge(job: &Job, plate: &Plate) -> bool {
@@ -64,9 +67,12 @@ impl Side for Baseline {
         plate.stats = [error, error, count_dots(&plate.dots), 0, 0, 0];
     }
 
-    #[inline(never)]
     fn settle(&self, job: &Job, plate: &mut Plate) -> u64 {
-        search::settle(job, plate)
+        if self.any_first {
+            search::settle::<true>(job, plate)
+        } else {
+            search::settle::<false>(job, plate)
+        }
     }
 
     fn try_toggle(&self, job: &Job, plate: &mut Plate, row: usize, col: usize) -> i64 {

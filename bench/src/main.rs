@@ -1,7 +1,7 @@
 //! Measures the library and the baseline in one run, and tests that both end with the same plates.
 //!
 //!     bench [--quick] [--markdown]
-//!     bench --count library|baseline KIND    one small settling, for a tool that counts instructions
+//!     bench --count library|baseline|any-first KIND    one small settling, for a tool that counts instructions
 
 mod baseline;
 mod input;
@@ -12,8 +12,8 @@ mod report;
 
 use baseline::Baseline;
 use library::Library;
-use measure::{job, settlings, Outcome, Scale};
-use plate::{Job, Plate, Side};
+use measure::{job, settlings, single_calls, Scale};
+use plate::{Plate, Side};
 use std::env;
 use std::process::ExitCode;
 
@@ -22,10 +22,11 @@ fn main() -> ExitCode {
     let words: Vec<&str> = words.iter().map(String::as_str).collect();
     match words[..] {
         ["--count", "library", kind] => count(&Library, kind),
-        ["--count", "baseline", kind] => count(&Baseline, kind),
+        ["--count", "any-first", kind] => count(&Baseline { any_first: true }, kind),
+        ["--count", "baseline", kind] => count(&Baseline { any_first: false }, kind),
         _ if words.iter().all(|word| ["--quick", "--markdown"].contains(word)) => compare(&words),
         _ => {
-            eprintln!("usage: bench [--quick] [--markdown] | bench --count library|baseline KIND");
+            eprintln!("usage: bench [--quick] [--markdown] | bench --count library|baseline|any-first KIND");
             ExitCode::from(2)
         }
     }
@@ -50,9 +51,12 @@ fn compare(words: &[&str]) -> ExitCode {
     } else {
         Scale { side: 256, repetitions: 5, calls: 32 }
     };
-    let outcomes = [settlings(&scale)];
+    let outcomes = [settlings(&scale), single_calls(&scale)];
     for outcome in &outcomes {
         outcome.table.print(words.contains(&"--markdown"));
     }
-    ExitCode::SUCCESS
+    let alike: usize = outcomes.iter().map(|outcome| outcome.alike).sum();
+    let unlike: usize = outcomes.iter().map(|outcome| outcome.unlike).sum();
+    println!("{alike} passed, {unlike} failed");
+    ExitCode::from(u8::from(unlike > 0))
 }

@@ -1,8 +1,7 @@
 //! What both sides work on: a job (measures, psf, gray), a plate (dots, table, stats), and the calls that are measured.
 
-/// The ledger, in the order of the C interface.
+/// The ledger, in the order of the C interface; the first is the squared error at the start.
 pub type Stats = [i64; 6];
-pub const START_ERROR: usize = 0;
 pub const ERROR: usize = 1;
 pub const START_DOTS: usize = 2;
 pub const ON: usize = 3;

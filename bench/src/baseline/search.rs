@@ -8,19 +8,27 @@ use crate::plate::{Job, Plate, Stats, ERROR, OFF, ON, SWAPS};
 const DOT: i32 = 1 << 30;
 const EDGE: i32 = 1 << 29;
 
-/// As far as a partner or a window goes at most.
+/// A worth that no swap makes up for.
+const FAR: i32 = 1 << 29;
+
+/// As far as a partner or a window goes at most. On the right there are 4 more, so that a row has 16 at least.
 const MARGIN: usize = 6;
+
+/// Keys that hold all partners of a cell: 2 × 6 + 1 rows of 256 + 16 at most, up to a power of two, so that an
+/// index needs no test.
+const NEAR: usize = 4096;
 
 /// A cell that may be swapped with: how far it stands in the keys, counted from the first within reach, and
 /// 255 × (P − c) of its offset.
 #[derive(Clone, Copy)]
 struct Partner {
-    at: usize,
+    at: u32,
     worth: i32,
 }
 
-/// A plate being searched. A row of a window has 4r+1 numbers and 3 zeros, `LANES` together.
-struct Search<const LANES: usize> {
+/// A plate being searched. A row of a window has 4r+1 numbers and 3 zeros, `LANES` together. With `ANY_FIRST`, a pass
+/// without branches asks at each cell whether any partner lowers E, before they are gone through in order.
+struct Search<const LANES: usize, const ANY_FIRST: bool> {
     width: usize,
     height: usize,
     stride: usize,
@@ -31,21 +39,24 @@ struct Search<const LANES: usize> {
     window_back: usize,
     reach_back: usize,
     partners: Vec<Partner>,
+    /// The worths again, by their place: rows from the first within reach, filled up to 16 with `FAR`.
+    worths: Vec<[i32; 16]>,
     peak: i32,
     stats: Stats,
 }
 
-/// Settles a plate and answers the number of scans.
-pub fn settle(job: &Job, plate: &mut Plate) -> u64 {
+/// Settles a plate and answers the number of scans. Never inlined: its instructions are counted by its name.
+#[inline(never)]
+pub fn settle<const ANY_FIRST: bool>(job: &Job, plate: &mut Plate) -> u64 {
     match job.radius {
-        0 => Search::<4>::settle(job, plate),
-        1 => Search::<8>::settle(job, plate),
-        2 => Search::<12>::settle(job, plate),
-        _ => Search::<16>::settle(job, plate),
+        0 => Search::<4, ANY_FIRST>::settle(job, plate),
+        1 => Search::<8, ANY_FIRST>::settle(job, plate),
+        2 => Search::<12, ANY_FIRST>::settle(job, plate),
+        _ => Search::<16, ANY_FIRST>::settle(job, plate),
     }
 }
 
-impl<const LANES: usize> Search<LANES> {
+impl<const LANES: usize, const ANY_FIRST: bool> Search<LANES, ANY_FIRST> {
     fn settle(job: &Job, plate: &mut Plate) -> u64 {
         let mut search = Self::load(job, plate);
         let scans = search.run();
@@ -54,17 +65,19 @@ impl<const LANES: usize> Search<LANES> {
     }
 
     fn load(job: &Job, plate: &Plate) -> Self {
-        let stride = job.width + 2 * MARGIN;
+        let stride = job.width + 16;
         let c = autocorrelation(job.radius, &job.psf);
+        let partners = partners(job, &c, stride);
         let mut search = Search {
             width: job.width,
             height: job.height,
             stride,
-            keys: vec![EDGE; stride * (job.height + 2 * MARGIN) + LANES],
+            keys: vec![EDGE; stride * (job.height + 2 * MARGIN) + NEAR],
             windows: [window(job.radius, &c, 255), window(job.radius, &c, -255)],
             window_back: 2 * job.radius * (stride + 1),
             reach_back: job.reach * (stride + 1),
-            partners: partners(job, &c, stride),
+            worths: worths(job.reach, stride, &partners),
+            partners,
             peak: c[c.len() / 2],
             stats: plate.stats,
         };
@@ -146,16 +159,32 @@ impl<const LANES: usize> Search<LANES> {
     /// The first partner of m that lowers the squared error.
     fn first_partner(&self, m: usize) -> Option<Partner> {
         let key = self.keys[m];
-        let near = &self.keys[m - self.reach_back..=m + self.reach_back];
-        let mut partners = self.partners.iter();
-        let found = if is_dot(key) {
+        let near: &[i32; NEAR] = self.keys[m - self.reach_back..][..NEAR].try_into().expect("that many");
+        let key_of = |p: &Partner| near[p.at as usize % NEAR];
+        if is_dot(key) {
             let limit = key - DOT;
-            partners.find(|p| near[p.at] < limit - p.worth)
+            if ANY_FIRST && !self.any(near, |key, worth| key < limit - worth) {
+                return None;
+            }
+            first(&self.partners, |p| key_of(p) < limit - p.worth)
         } else {
             let limit = key + DOT;
-            partners.find(|p| near[p.at] > limit + p.worth)
-        };
-        found.copied()
+            if ANY_FIRST && !self.any(near, |key, worth| key > limit + worth) {
+                return None;
+            }
+            first(&self.partners, |p| key_of(p) > limit + p.worth)
+        }
+    }
+
+    /// Whether any key within reach lowers the squared error.
+    fn any(&self, near: &[i32; NEAR], lowers: impl Fn(i32, i32) -> bool) -> bool {
+        let mut found = [0; 16];
+        for (keys, worths) in near.chunks(self.stride).zip(&self.worths) {
+            for ((found, &key), &worth) in found.iter_mut().zip(&keys[..16]).zip(worths) {
+                *found |= i32::from(lowers(key, worth));
+            }
+        }
+        found != [0; 16]
     }
 
     fn toggle(&mut self, m: usize, key: i32) {
@@ -166,7 +195,7 @@ impl<const LANES: usize> Search<LANES> {
     }
 
     fn swap(&mut self, m: usize, partner: Partner) {
-        let n = m - self.reach_back + partner.at;
+        let n = m - self.reach_back + partner.at as usize;
         let (blank, dot) = if is_dot(self.keys[m]) { (n, m) } else { (m, n) };
         let gain = i64::from(self.keys[blank]) - i64::from(self.keys[dot] - DOT);
         self.stats[ERROR] += 510 * (gain + i64::from(partner.worth));
@@ -192,6 +221,17 @@ fn is_dot(key: i32) -> bool {
     key > EDGE
 }
 
+/// The first partner that lowers the squared error. At any reach the number of partners is a multiple of 8.
+fn first(partners: &[Partner], lowers: impl Fn(&Partner) -> bool) -> Option<Partner> {
+    for eight in partners.chunks_exact(8) {
+        let eight: &[Partner; 8] = eight.try_into().expect("a chunk of 8");
+        if let Some(partner) = eight.iter().find(|p| lowers(p)) {
+            return Some(*partner);
+        }
+    }
+    None
+}
+
 /// The rows of `factor` × c, each filled up with zeros.
 fn window<const LANES: usize>(radius: usize, c: &[i32], factor: i32) -> Vec<[i32; LANES]> {
     let row = |c: &[i32]| std::array::from_fn(|k| c.get(k).map_or(0, |c| factor * c));
@@ -206,7 +246,15 @@ fn partners(job: &Job, c: &[i32], stride: usize) -> Vec<Partner> {
     offsets.sort_by_key(|&(down, right)| (-(down * down + right * right), down, right));
     let at = |(down, right)| (down + reach) as usize * stride + (right + reach) as usize;
     let worth = |d| 255 * (c[c.len() / 2] - entry(job.radius, c, d));
-    offsets.into_iter().map(|d| Partner { at: at(d), worth: worth(d) }).collect()
+    offsets.into_iter().map(|d| Partner { at: at(d) as u32, worth: worth(d) }).collect()
+}
+
+fn worths(reach: usize, stride: usize, partners: &[Partner]) -> Vec<[i32; 16]> {
+    let mut rows = vec![[FAR; 16]; 2 * reach + 1];
+    for p in partners {
+        rows[p.at as usize / stride][p.at as usize % stride] = p.worth;
+    }
+    rows
 }
 
 /// c at an offset, 0 past 2r.
