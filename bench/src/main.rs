@@ -51,12 +51,16 @@ fn compare(words: &[&str]) -> ExitCode {
     } else {
         Scale { side: 256, repetitions: 5, calls: 32 }
     };
-    let outcomes = [settlings(&scale), single_calls(&scale)];
-    for outcome in &outcomes {
-        outcome.table.print(words.contains(&"--markdown"));
-    }
-    let alike: usize = outcomes.iter().map(|outcome| outcome.alike).sum();
-    let unlike: usize = outcomes.iter().map(|outcome| outcome.unlike).sum();
+    let (settled, called) = (settlings(&scale), single_calls(&scale));
+    let side = scale.side;
+    println!("{side} by {side}, median of {}; a: the library, b: the baseline\n", scale.repetitions);
+    println!(
+        "Start and settling in ms, with ' the settling alone; b2: b that asks first whether any partner will do\n"
+    );
+    settled.table.print(words.contains(&"--markdown"));
+    println!("One call in us, radius 3; bj: b that judges table and stats first\n");
+    called.table.print(words.contains(&"--markdown"));
+    let (alike, unlike) = (settled.alike + called.alike, settled.unlike + called.unlike);
     println!("{alike} passed, {unlike} failed");
     ExitCode::from(u8::from(unlike > 0))
 }

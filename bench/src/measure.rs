@@ -63,9 +63,9 @@ fn median<T>(runs: &[T], time: impl Fn(&T) -> Duration) -> f64 {
 }
 
 /// Settlings by the library (a), the baseline (b) and the baseline that asks first whether any partner will do (b2).
-/// "Alone" is without the start.
+/// A figure with a dash is without the start.
 pub fn settlings(scale: &Scale) -> Outcome {
-    let head = ["settling", "scans", "a ms", "b ms", "a/b", "a alone", "b alone", "a/b", "b2 alone", "a/b2", "alike"];
+    let head = ["settling", "scans", "a", "b", "a/b", "a'", "b'", "a'/b'", "b2'", "a'/b2'", "alike"];
     let mut outcome = Outcome::new(&head);
     let sides: [&dyn Side; 3] = [&Library, &BASELINE, &Baseline { any_first: true }];
     for (name, job) in jobs(scale.side) {
@@ -73,13 +73,13 @@ pub fn settlings(scale: &Scale) -> Outcome {
         for _ in 0..scale.repetitions {
             sides.iter().zip(&mut runs).for_each(|(side, runs)| runs.push(settle_once(*side, &job)));
         }
-        let last = &runs[0][0];
-        let alike = runs.iter().flatten().all(|run| run.plate == last.plate && run.scans == last.scans);
+        let one = &runs[0][0];
+        let alike = runs.iter().flatten().all(|run| run.plate == one.plate && run.scans == one.scans);
         let [a, b, _] = runs.each_ref().map(|runs| median(runs, |run| run.start + run.settle));
         let [a_alone, b_alone, b2_alone] = runs.each_ref().map(|runs| median(runs, |run| run.settle));
         let figures = [a, b, a / b, a_alone, b_alone, a_alone / b_alone, b2_alone, a_alone / b2_alone];
         let texts = figures.iter().map(|figure| format!("{figure:.2}"));
-        outcome.add([name, last.scans.to_string()].into_iter().chain(texts).collect(), alike);
+        outcome.add([name, one.scans.to_string()].into_iter().chain(texts).collect(), alike);
     }
     outcome
 }
@@ -122,7 +122,7 @@ fn call_often(call: Call, mut plate: Plate, calls: usize) -> Called {
 /// Single calls on a plate of radius 3 by the library (a), by the baseline (b), and, for attempts, by the baseline after
 /// it has judged table and stats (bj), as document 01 demands of a call.
 pub fn single_calls(scale: &Scale) -> Outcome {
-    let mut outcome = Outcome::new(&["call", "a us", "b us", "a/b", "bj us", "a/bj", "alike"]);
+    let mut outcome = Outcome::new(&["call", "a", "b", "a/b", "bj", "a/bj", "alike"]);
     let job = job(scale.side, 3, 6, 0, input::flat(scale.side, scale.side));
     let mut settled = settle_once(&BASELINE, &job).plate;
     let mut blank = Plate::cleared(job.cells());
@@ -137,12 +137,8 @@ pub fn single_calls(scale: &Scale) -> Outcome {
         add_calls(&mut outcome, name, scale, plate, &[&a, &b, &judging]);
     }
     settled.table.fill(0);
-    let table = |side: &dyn Side, plate: &mut Plate| {
-        side.table(&job, plate);
-        0
-    };
-    let a = |plate: &mut Plate, _| table(&Library, plate);
-    let b = |plate: &mut Plate, _| table(&BASELINE, plate);
+    let a = |plate: &mut Plate, _| fill_table(&Library, &job, plate);
+    let b = |plate: &mut Plate, _| fill_table(&BASELINE, &job, plate);
     add_calls(&mut outcome, "table", scale, &settled, &[&a, &b]);
     let a = |plate: &mut Plate, _| Library.squared_error(&job, plate);
     let b = |plate: &mut Plate, _| BASELINE.squared_error(&job, plate);
@@ -156,14 +152,20 @@ fn toggle(side: &dyn Side, job: &Job, plate: &mut Plate, k: usize) -> i64 {
     side.try_toggle(job, plate, k / in_row * 16, k % in_row * 16)
 }
 
+/// The plate shows what the call did; there is no figure.
+fn fill_table(side: &dyn Side, job: &Job, plate: &mut Plate) -> i64 {
+    side.table(job, plate);
+    0
+}
+
 /// A row for one call made in each of these ways, the library's first.
 fn add_calls(outcome: &mut Outcome, name: &str, scale: &Scale, plate: &Plate, ways: &[Call]) {
     let mut runs: Vec<Vec<Called>> = ways.iter().map(|_| Vec::new()).collect();
     for _ in 0..scale.repetitions {
         ways.iter().zip(&mut runs).for_each(|(call, runs)| runs.push(call_often(call, plate.clone(), scale.calls)));
     }
-    let last = &runs[0][0];
-    let alike = runs.iter().flatten().all(|run| run.plate == last.plate && run.answers == last.answers);
+    let one = &runs[0][0];
+    let alike = runs.iter().flatten().all(|run| run.plate == one.plate && run.answers == one.answers);
     let times: Vec<f64> = runs.iter().map(|runs| 1000.0 * median(runs, |run| run.time)).collect();
     let mut row = vec![name.to_string(), format!("{:.1}", times[0])];
     for time in &times[1..] {
