@@ -1,0 +1,66 @@
+//! Measures the library and the baseline in one run, and tests that both end with the same plates.
+//!
+//!     bench [--quick] [--markdown]
+//!     bench --count library|baseline|any-first KIND    one small settling, for a tool that counts instructions
+
+mod baseline;
+mod input;
+mod library;
+mod measure;
+mod plate;
+mod report;
+
+use baseline::Baseline;
+use library::Library;
+use measure::{job, settlings, single_calls, Scale};
+use plate::{Plate, Side};
+use std::env;
+use std::process::ExitCode;
+
+fn main() -> ExitCode {
+    let words: Vec<String> = env::args().skip(1).collect();
+    let words: Vec<&str> = words.iter().map(String::as_str).collect();
+    match words[..] {
+        ["--count", "library", kind] => count(&Library, kind),
+        ["--count", "any-first", kind] => count(&Baseline { any_first: true }, kind),
+        ["--count", "baseline", kind] => count(&Baseline { any_first: false }, kind),
+        _ if words.iter().all(|word| ["--quick", "--markdown"].contains(word)) => compare(&words),
+        _ => {
+            eprintln!("usage: bench [--quick] [--markdown] | bench --count library|baseline|any-first KIND");
+            ExitCode::from(2)
+        }
+    }
+}
+
+/// One small settling by one side.
+fn count(side: &dyn Side, kind: &str) -> ExitCode {
+    let Ok(kind) = kind.parse() else {
+        return ExitCode::from(2);
+    };
+    let job = job(64, 3, 6, kind, input::noisy_ramp(64, 64));
+    let mut plate = Plate::cleared(job.cells());
+    side.start(&job, &mut plate);
+    println!("{} scans", side.settle(&job, &mut plate));
+    ExitCode::SUCCESS
+}
+
+fn compare(words: &[&str]) -> ExitCode {
+    let quick = words.contains(&"--quick");
+    let scale = if quick {
+        Scale { side: 64, repetitions: 1, calls: 4 }
+    } else {
+        Scale { side: 256, repetitions: 5, calls: 32 }
+    };
+    let (settled, called) = (settlings(&scale), single_calls(&scale));
+    let side = scale.side;
+    println!("{side} by {side}, median of {}; a: the library, b: the baseline\n", scale.repetitions);
+    println!(
+        "Start and settling in ms, with ' the settling alone; b2: b that asks first whether any partner will do\n"
+    );
+    settled.table.print(words.contains(&"--markdown"));
+    println!("One call in us, radius 3; bj: b that judges table and stats first\n");
+    called.table.print(words.contains(&"--markdown"));
+    let (alike, unlike) = (settled.alike + called.alike, settled.unlike + called.unlike);
+    println!("{alike} passed, {unlike} failed");
+    ExitCode::from(u8::from(unlike > 0))
+}

@@ -1,0 +1,176 @@
+//! The measurements: settlings and single calls by each side in turn, medians of their times, and whether the sides agree.
+
+use crate::baseline::{self, Baseline};
+use crate::input;
+use crate::library::Library;
+use crate::plate::{Job, Plate, Side};
+use crate::report::Table;
+use std::time::{Duration, Instant};
+
+const BASELINE: Baseline = Baseline { any_first: false };
+
+/// How large and how often.
+pub struct Scale {
+    pub side: usize,
+    pub repetitions: usize,
+    /// Calls timed together where one call is short.
+    pub calls: usize,
+}
+
+/// A table of times, and how many of its rows ended alike on both sides.
+pub struct Outcome {
+    pub table: Table,
+    pub alike: usize,
+    pub unlike: usize,
+}
+
+impl Outcome {
+    fn new(head: &[&str]) -> Outcome {
+        Outcome { table: Table::new(head), alike: 0, unlike: 0 }
+    }
+
+    fn add(&mut self, mut row: Vec<String>, alike: bool) {
+        row.push(if alike { "yes" } else { "NO" }.to_string());
+        self.table.add(row);
+        self.alike += usize::from(alike);
+        self.unlike += usize::from(!alike);
+    }
+}
+
+/// A settling with its start: the times of both, and how it ended.
+struct Settled {
+    start: Duration,
+    settle: Duration,
+    plate: Plate,
+    scans: u64,
+}
+
+fn settle_once(side: &dyn Side, job: &Job) -> Settled {
+    let mut plate = Plate::cleared(job.cells());
+    let begun = Instant::now();
+    side.start(job, &mut plate);
+    let start = begun.elapsed();
+    let scans = side.settle(job, &mut plate);
+    let settle = begun.elapsed() - start;
+    Settled { start, settle, plate, scans }
+}
+
+/// The median in milliseconds.
+fn median<T>(runs: &[T], time: impl Fn(&T) -> Duration) -> f64 {
+    let mut times: Vec<Duration> = runs.iter().map(time).collect();
+    times.sort();
+    times[times.len() / 2].as_secs_f64() * 1000.0
+}
+
+/// Settlings by the library (a), the baseline (b) and the baseline that asks first whether any partner will do (b2).
+/// A figure with a dash is without the start.
+pub fn settlings(scale: &Scale) -> Outcome {
+    let head = ["settling", "scans", "a", "b", "a/b", "a'", "b'", "a'/b'", "b2'", "a'/b2'", "alike"];
+    let mut outcome = Outcome::new(&head);
+    let sides: [&dyn Side; 3] = [&Library, &BASELINE, &Baseline { any_first: true }];
+    for (name, job) in jobs(scale.side) {
+        let mut runs = [Vec::new(), Vec::new(), Vec::new()];
+        for _ in 0..scale.repetitions {
+            sides.iter().zip(&mut runs).for_each(|(side, runs)| runs.push(settle_once(*side, &job)));
+        }
+        let one = &runs[0][0];
+        let alike = runs.iter().flatten().all(|run| run.plate == one.plate && run.scans == one.scans);
+        let [a, b, _] = runs.each_ref().map(|runs| median(runs, |run| run.start + run.settle));
+        let [a_alone, b_alone, b2_alone] = runs.each_ref().map(|runs| median(runs, |run| run.settle));
+        let figures = [a, b, a / b, a_alone, b_alone, a_alone / b_alone, b2_alone, a_alone / b2_alone];
+        let texts = figures.iter().map(|figure| format!("{figure:.2}"));
+        outcome.add([name, one.scans.to_string()].into_iter().chain(texts).collect(), alike);
+    }
+    outcome
+}
+
+fn jobs(side: usize) -> Vec<(String, Job)> {
+    let grays = [("ramp", input::noisy_ramp(side, side)), ("flat", input::flat(side, side))];
+    let mut jobs = Vec::new();
+    for (radius, reach) in [(3, 6), (3, 1), (1, 6)] {
+        for (name, gray) in &grays {
+            for kind in [0, 1] {
+                let name = format!("radius {radius}, reach {reach}, {name}, kind {kind}");
+                jobs.push((name, job(side, radius, reach, kind, gray.clone())));
+            }
+        }
+    }
+    jobs
+}
+
+/// A square job.
+pub fn job(side: usize, radius: usize, reach: usize, kind: usize, gray: Vec<u8>) -> Job {
+    Job { width: side, height: side, radius, reach, kind, psf: input::psf(radius), gray }
+}
+
+/// A way to make the k-th of the calls that are timed together. It answers a figure to compare.
+type Call<'a> = &'a dyn Fn(&mut Plate, usize) -> i64;
+
+/// Calls timed together: the time of one, and how they ended.
+struct Called {
+    time: Duration,
+    plate: Plate,
+    answers: Vec<i64>,
+}
+
+fn call_often(call: Call, mut plate: Plate, calls: usize) -> Called {
+    let begun = Instant::now();
+    let answers = (0..calls).map(|k| call(&mut plate, k)).collect();
+    Called { time: begun.elapsed() / calls as u32, plate, answers }
+}
+
+/// Single calls on a plate of radius 3 by the library (a), by the baseline (b), and, for attempts, by the baseline after
+/// it has judged table and stats (bj), as document 01 demands of a call.
+pub fn single_calls(scale: &Scale) -> Outcome {
+    let mut outcome = Outcome::new(&["call", "a", "b", "a/b", "bj", "a/bj", "alike"]);
+    let job = job(scale.side, 3, 6, 0, input::flat(scale.side, scale.side));
+    let mut settled = settle_once(&BASELINE, &job).plate;
+    let mut blank = Plate::cleared(job.cells());
+    BASELINE.start(&job, &mut blank);
+    for (name, plate) in [("toggle, accepted", &blank), ("toggle, declined", &settled)] {
+        let judging = |plate: &mut Plate, k| {
+            assert!(baseline::judge(&job, plate), "a plate that was left right");
+            toggle(&BASELINE, &job, plate, k)
+        };
+        let a = |plate: &mut Plate, k| toggle(&Library, &job, plate, k);
+        let b = |plate: &mut Plate, k| toggle(&BASELINE, &job, plate, k);
+        add_calls(&mut outcome, name, scale, plate, &[&a, &b, &judging]);
+    }
+    settled.table.fill(0);
+    let a = |plate: &mut Plate, _| fill_table(&Library, &job, plate);
+    let b = |plate: &mut Plate, _| fill_table(&BASELINE, &job, plate);
+    add_calls(&mut outcome, "table", scale, &settled, &[&a, &b]);
+    let a = |plate: &mut Plate, _| Library.squared_error(&job, plate);
+    let b = |plate: &mut Plate, _| BASELINE.squared_error(&job, plate);
+    add_calls(&mut outcome, "squared error", scale, &settled, &[&a, &b]);
+    outcome
+}
+
+/// An attempt at the k-th of cells that stand too far apart for one to bear on another.
+fn toggle(side: &dyn Side, job: &Job, plate: &mut Plate, k: usize) -> i64 {
+    let in_row = job.width / 16;
+    side.try_toggle(job, plate, k / in_row * 16, k % in_row * 16)
+}
+
+/// The plate shows what the call did; there is no figure.
+fn fill_table(side: &dyn Side, job: &Job, plate: &mut Plate) -> i64 {
+    side.table(job, plate);
+    0
+}
+
+/// A row for one call made in each of these ways, the library's first.
+fn add_calls(outcome: &mut Outcome, name: &str, scale: &Scale, plate: &Plate, ways: &[Call]) {
+    let mut runs: Vec<Vec<Called>> = ways.iter().map(|_| Vec::new()).collect();
+    for _ in 0..scale.repetitions {
+        ways.iter().zip(&mut runs).for_each(|(call, runs)| runs.push(call_often(call, plate.clone(), scale.calls)));
+    }
+    let one = &runs[0][0];
+    let alike = runs.iter().flatten().all(|run| run.plate == one.plate && run.answers == one.answers);
+    let times: Vec<f64> = runs.iter().map(|runs| 1000.0 * median(runs, |run| run.time)).collect();
+    let mut row = vec![name.to_string(), format!("{:.1}", times[0])];
+    for time in &times[1..] {
+        row.extend([format!("{time:.1}"), format!("{:.2}", times[0] / time)]);
+    }
+    row.resize(6, "-".to_string());
+    outcome.add(row, alike);
+}

@@ -1,0 +1,53 @@
+//! What both sides work on: a job (measures, psf, gray), a plate (dots, table, stats), and the calls that are measured.
+
+/// The ledger, in the order of the C interface; the first is the squared error at the start.
+pub type Stats = [i64; 6];
+pub const ERROR: usize = 1;
+pub const START_DOTS: usize = 2;
+pub const ON: usize = 3;
+pub const OFF: usize = 4;
+pub const SWAPS: usize = 5;
+
+pub struct Job {
+    pub width: usize,
+    pub height: usize,
+    pub radius: usize,
+    pub reach: usize,
+    pub kind: usize,
+    pub psf: Vec<u8>,
+    pub gray: Vec<u8>,
+}
+
+impl Job {
+    pub fn cells(&self) -> usize {
+        self.width * self.height
+    }
+}
+
+#[derive(Clone, PartialEq)]
+pub struct Plate {
+    pub dots: Vec<u8>,
+    pub table: Vec<i32>,
+    pub stats: Stats,
+}
+
+impl Plate {
+    /// Buffers of the right lengths, cleared.
+    pub fn cleared(cells: usize) -> Plate {
+        Plate { dots: vec![0; cells], table: vec![0; cells], stats: [0; 6] }
+    }
+}
+
+/// The calls that are measured, as one side makes them.
+pub trait Side {
+    /// Fills dots (with kind 2 they are read), table and stats.
+    fn start(&self, job: &Job, plate: &mut Plate);
+    /// Answers the number of scans.
+    fn settle(&self, job: &Job, plate: &mut Plate) -> u64;
+    /// Answers what the toggle adds to the squared error; below 0 it was made.
+    fn try_toggle(&self, job: &Job, plate: &mut Plate, row: usize, col: usize) -> i64;
+    /// Works the table out afresh, into the plate.
+    fn table(&self, job: &Job, plate: &mut Plate);
+    /// Works the squared error out afresh.
+    fn squared_error(&self, job: &Job, plate: &Plate) -> i64;
+}
