@@ -1,8 +1,11 @@
--- A law that several proofs use: a value with a sign, as its local holds it.
-use mathlib.Core.Path.{_≡_, _∙_, ap}
-use Prim.Native.Nat.{ℕ, _^_, _<_}
+-- Laws that several proofs use: a value with a sign, as its local holds it, and the sign of a multiple.
+use mathlib.Core.Bool.{true}
+use mathlib.Core.Path.{_≡_, refl, sym, _∙_, ap}
+use Prim.Native.Nat.{ℕ, zero, suc, _*_, _^_, _<_}
 use native.Mathlib.Omega.{arith}
-use lib.IntN.{ℤ, natAbs, _*ℤ_}
+use borrow.Author.Tests.{le-ltb}
+use lib.IntN.{ℤ, pos, negsuc, negℤ, natAbs, _*ℤ_}
+use lib.Signed.{ltZ}
 use mir.Syntax.{w32}
 use mir.Val.{toZ, ofZ}
 use Rattle.algebra.proofs.Machine.{Holds, of-small, named, size-of}
@@ -11,3 +14,12 @@ pub signed-holds : {n k : ℕ} {v : ℤ} (r s : ℤ) → Holds w32 n v k → k <
     → (r ≡ s *ℤ toZ w32 n) × (natAbs r ≡ natAbs (toZ w32 n)) → Holds w32 (ofZ w32 r) (s *ℤ v) k
 signed-holds r s h q e =
     named (e .0 ∙ ap (λ z. s *ℤ z) (h .value)) (of-small w32 r (omega (arith, e .1, size-of h)) q)
+
+-- ---- the sign of a multiple
+negative : (n : ℕ) → 0 < n → ltZ (negℤ (pos n)) (pos 0) ≡ true
+negative zero h = absurd (omega arith)
+negative (suc n) h = refl
+
+pub multiple-sign : (k : ℕ) (z : ℤ) → ltZ (pos (suc k) *ℤ z) (pos 0) ≡ ltZ z (pos 0)
+multiple-sign k (pos n) = le-ltb (suc k * n) 0 (omega arith) ∙ sym (le-ltb n 0 (omega arith))
+multiple-sign k (negsuc n) = negative (suc k * suc n) (omega arith)

@@ -16,7 +16,7 @@ use model::Stats;
 use window::add_window;
 
 // a value times s of a cell whose dot byte is `dot`
-fn signed(dot: u8, value: i32) -> i32
+pub fn signed(dot: u8, value: i32) -> i32
     requires { ⌜ natAbs value ≤ 2 * mostFiltered ⌝ }
     ensures { λ r. ⌜ r ≡ signOf dot *ℤ value ⌝ }
     ensures { λ r. ⌜ natAbs r ≡ natAbs value ⌝ }

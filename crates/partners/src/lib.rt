@@ -94,13 +94,13 @@ pub struct Cell {
     pub col: usize,
 }
 
-// the next cell in raster order
-pub fn next(width: usize, at: Cell) -> Cell
-    requires { ⌜ (at .row < 256) × (at .col < width) × (width ≤ 256) ⌝ }
-    ensures { λ r. ⌜ cellAt width (r .row) (r .col) ≡ suc (cellAt width (at .row) (at .col)) ⌝ }
+// the cell n further on in raster order, where the row has so many left
+pub fn ahead(width: usize, at: Cell, n: usize) -> Cell
+    requires { ⌜ (at .row < 256) × (at .col < width) × (width ≤ 256) × (at .col + n ≤ width) ⌝ }
+    ensures { λ r. ⌜ cellAt width (r .row) (r .col) ≡ cellAt width (at .row) (at .col) + n ⌝ }
     ensures { λ r. ⌜ r .col < width ⌝ }
 {
-    if at.col + 1 == width {
+    if at.col + n == width {
         return Cell {
             row: at.row + 1,
             col: 0,
@@ -108,8 +108,17 @@ pub fn next(width: usize, at: Cell) -> Cell
     }
     Cell {
         row: at.row,
-        col: at.col + 1,
+        col: at.col + n,
     }
+}
+
+// the next cell in raster order
+pub fn next(width: usize, at: Cell) -> Cell
+    requires { ⌜ (at .row < 256) × (at .col < width) × (width ≤ 256) ⌝ }
+    ensures { λ r. ⌜ cellAt width (r .row) (r .col) ≡ suc (cellAt width (at .row) (at .col)) ⌝ }
+    ensures { λ r. ⌜ r .col < width ⌝ }
+{
+    ahead(width, at, 1)
 }
 
 // what 255 × (P - c(d)) is for each offset d within reach

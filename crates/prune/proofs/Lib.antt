@@ -1,2 +1,3 @@
 -- Laws that the proofs of this crate share.
+pub mod Run
 pub mod Grid

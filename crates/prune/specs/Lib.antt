@@ -1,2 +1,3 @@
--- What the quick test of a cell's partners rests on and shows.
+-- What the quick tests rest on and show.
 pub mod Grid
+pub mod Run

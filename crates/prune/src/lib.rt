@@ -1,5 +1,6 @@
-// A quick test of all partners of a cell at once, by the table alone: row by row of those within reach, without a branch
-// in a row. Where it finds no sum below 0, no partner lowers the squared error and the ordered trials can be left out.
+// Quick tests by the table, without a branch in their inner loops: of a run of cells, whether a toggle is accepted in
+// it; and of all partners of a cell, row by row of those within reach, whether a sum is below 0. Where none is, the
+// trials in order can be left out.
 ghost use mathlib.Core.Bool.{false};
 ghost use mathlib.Core.Path.{_≡_};
 ghost use Prim.Native.Nat.{ℕ, _+_, _*_, _<_, _≤_};
@@ -7,13 +8,34 @@ ghost use lib.IntN.{pos, natAbs};
 ghost use lib.ListN.{length, getD};
 ghost use Rattle.model.specs.Basic.{squareAt};
 ghost use Rattle.model.specs.Window.{Small, mostFiltered};
+ghost use Rattle.prune.specs.Run.{TogglesClear};
 ghost use Rattle.prune.specs.Grid.{worthIn, GridFits, RunClear, RowsClear};
 use change::between;
 use change::difference;
 use change::peak;
+use change::signed;
 use partners::Cell;
 use window::high;
 use window::low;
+
+// whether a toggle is accepted at one of the n cells from `from` on
+pub fn any_toggles(peak: i32, dots: &[u8], table: &[i32], from: usize, n: usize) -> bool
+    requires { ⌜ (from + n ≤ length (now dots)) × (from + n ≤ length (now table)) ⌝ }
+    requires { ⌜ (natAbs peak ≤ 1048576) × Small mostFiltered (now table) ⌝ }
+    ensures { λ r. ⌜ (r ≡ false → TogglesClear peak (now (dots .entry)) (now (table .entry)) from n) ⌝ }
+{
+    let limit = 255 * peak;
+    let mut any = false;
+    let mut k: usize = 0;
+    while k < n {
+        let at = from + k;
+        if 2 * signed(dots[at], table[at]) + limit < 0 {
+            any = true;
+        }
+        k += 1;
+    }
+    any
+}
 
 // how long the rows are: 8 or 16 entries, which hold the 2 × reach + 1 that are wanted
 pub fn side_of(reach: usize) -> usize

@@ -23,6 +23,7 @@ use Rattle.model.specs.Window.{HoldsKernel}
 use Rattle.model.proofs.Partners.{lands-on}
 use Rattle.model.proofs.State.{below}
 use Rattle.partners.proofs.Landing.{lands-is, partner-is}
+use Rattle.change.proofs.Laws.{multiple-sign}
 use Rattle.trial.proofs.Laws.{swap-is}
 
 -- ---- along one coordinate: d - 6 on from place a
@@ -40,19 +41,11 @@ inside-by limit a d h =
 back : (a d : ℕ) → 6 ≤ a + d → pos a -ℤ pos (a + d - 6) ≡ pos 6 -ℤ pos d
 back a d h = show≡ (pos a ∷ pos d ∷ pos (a + d - 6) ∷ []) (search reify depth 40) (omega arith)
 
--- ---- the sign of a multiple
-negative : (n : ℕ) → 0 < n → ltZ (negℤ (pos n)) (pos 0) ≡ true
-negative zero h = absurd (omega arith)
-negative (suc n) h = refl
-
-scaled : (k : ℕ) (z : ℤ) → ltZ (pos (suc k) *ℤ z) (pos 0) ≡ ltZ z (pos 0)
-scaled k (pos n) = le-ltb (suc k * n) 0 (omega arith) ∙ sym (le-ltb n 0 (omega arith))
-scaled k (negsuc n) = negative (suc k * suc n) (omega arith)
-
+-- ---- the sign of a swap's change is that of its sum
 sum-sign : (P z s a b : ℤ)
     → ltZ (s *ℤ (a -ℤ b) +ℤ pos 255 *ℤ (P -ℤ z)) (pos 0) ≡ ltZ (swapSum 255 P z s a b) (pos 0)
 unfolding swapSum
-sum-sign P z s a b = sym (scaled 509 (s *ℤ (a -ℤ b) +ℤ pos 255 *ℤ (P -ℤ z)))
+sum-sign P z s a b = sym (multiple-sign 509 (s *ℤ (a -ℤ b) +ℤ pos 255 *ℤ (P -ℤ z)))
 
 -- ---- where it lands
 module _ (w h row col : ℕ) (across : col < w) (down right : ℕ) where

@@ -2,7 +2,7 @@
 -- far are those of the reference.
 use mathlib.Core.List.{List}
 use mathlib.Core.Path.{_≡_, refl, sym, _∙_, ap, subst}
-use Prim.Native.Nat.{ℕ, suc, _*_, _^_, _≤_, _<_}
+use Prim.Native.Nat.{ℕ, zero, suc, _+_, _*_, _^_, _≤_, _<_}
 use native.Mathlib.Nat.{mul-le-mul-right}
 use native.Mathlib.Omega.{arith}
 use lib.IntN.{ℤ}
@@ -15,6 +15,7 @@ use Rattle.model.specs.State.{LaterFits}
 use Rattle.model.specs.Scan.{Rule, Sweep, sweepOf, tryEach, visit, sweepTo, resultOf, scan}
 use Rattle.model.proofs.Attempts.{Sound, entry-stats}
 use Rattle.model.proofs.Scan.{Lawful, sweep-later, sweep-counts}
+use Rattle.scans.proofs.Visit.{visit-none}
 
 pub record Under (m : Measures) (psf gray : List ℕ) (rule : Rule) (p : Reference) (n : ℕ)
     (dots : List ℕ) (table : List ℤ) (r : ScanResult) : Type 0 where
@@ -108,3 +109,14 @@ module _ {m : Measures} {psf gray : List ℕ} {rule : Rule} {p : Reference} {n :
 -- the cell reached once its row is below the plate is the number of cells
 pub cells-done : {h row : ℕ} (w col : ℕ) → h ≤ row → cellAt w row col ≤ h * w → cellAt w row col ≡ h * w
 cells-done w col below few = omega (arith, mul-le-mul-right w below)
+
+-- k cells more, where nothing is accepted at any of them
+pub under-skip : {m : Measures} {psf gray : List ℕ} {rule : Rule} {p : Reference} {dots : List ℕ} {table : List ℤ}
+    {r : ScanResult} (n k : ℕ) → Under m psf gray rule p n dots table r → LaterFits m psf gray dots table (r .stats)
+    → ((j : ℕ) → j < k → visit (targetFor m psf gray) rule dots r (n + j) ≡ sweepOf dots r)
+    → Under m psf gray rule p (n + k) dots table r
+under-skip n zero u f still = under-at u (omega arith)
+under-skip {m} {psf} {gray} {dots} {r} n (suc k) u f still =
+    let before = under-skip n k u f (λ j h. still j (omega arith)) in
+    let (result, (dots-are, table-is)) = visit-none m psf gray dots r f (still k (omega arith)) in
+    under-at (under-next before result dots-are table-is) (omega arith)

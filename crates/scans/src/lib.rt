@@ -1,30 +1,33 @@
 // Scans and settling of a judged plate whose kernel is c. A trial is decided by the table in a few operations; a change
 // that is accepted updates the window of each cell that it turns. Where psf and gray are not read, they are there for
 // the contract.
-ghost use mathlib.Core.Bool.{_&&_};
+ghost use mathlib.Core.Bool.{false, _&&_};
 ghost use mathlib.Core.Path.{_≡_};
-ghost use Prim.Native.Nat.{_^_, _≤_, _<_};
+ghost use Prim.Native.Nat.{ℕ, _+_, _^_, _≤_, _<_, min};
 ghost use lib.ListN.{length, getD};
 ghost use Rattle.model.specs.Error.{targetFor, cellAt, filteredErrors};
 ghost use Rattle.model.specs.Window.{HoldsKernel};
 ghost use Rattle.model.specs.Refusal.{HalftoneFits};
 ghost use Rattle.model.specs.State.{LaterFits};
-ghost use Rattle.model.specs.Reference.{swap, reference, lowers};
+ghost use Rattle.model.specs.Reference.{toggle, swap, reference, lowers};
 ghost use Rattle.model.specs.Partners.{biased, partner, worthAt, HoldsOffsets, HoldsWorths};
 ghost use Rattle.model.specs.Scan.{toggles, suits, Lowers, swaps, swapsAfter, visit, resultOf};
 ghost use Rattle.prune.specs.Grid.{GridFits};
 ghost use Rattle.model.specs.Calls.{toggleScanned, swapScanned, atRest};
 use change::lower_swap;
 use change::lowers as is_lower;
+use change::peak;
 use model::ConvergeResult;
 use model::Measures;
 use model::ScanResult;
 use model::Stats;
 use partners::Cell;
+use partners::ahead;
 use partners::next;
 use partners::partner_cell;
 use partners::weigh_offsets;
 use partners::within_reach;
+use prune::any_toggles;
 use prune::lay_worths;
 use prune::may_lower;
 use prune::side_of;
@@ -32,6 +35,12 @@ use trial::make_swap;
 use trial::make_toggle;
 use trial::weigh_swap;
 use trial::weigh_toggle;
+
+fn least(a: usize, b: usize) -> usize
+    ensures { λ r. ⌜ r ≡ min a b ⌝ }
+{
+    if a < b { a } else { b }
+}
 
 // a toggle scan at one cell
 fn toggle_cell(
@@ -79,6 +88,49 @@ fn toggle_cell(
     scan
 }
 
+// How many cells from here on can be passed over, a toggle being accepted at none: a run of up to 16 in this row, or 0
+// where one is accepted in it. Cells before `tested` are in a run where one was found.
+fn clear_run(
+    measures: Measures,
+    psf: &[u8],
+    gray: &[u8],
+    c: &[i32],
+    dots: &[u8],
+    table: &[i32],
+    at: Cell,
+    tested: usize,
+) -> usize
+    requires { ⌜ HalftoneFits (measures .width) (measures .height) (measures .radius) (now psf) (now gray) (now dots)
+        (length (now table)) ⌝ }
+    requires { ⌜ now table ≡ filteredErrors (targetFor measures (now psf) (now gray)) (now dots) ⌝ }
+    requires { ⌜ HoldsKernel (measures .radius) (now psf) (now c) ⌝ }
+    requires { ⌜ (at .row < measures .height) × (at .col < measures .width) ⌝ }
+    ensures { λ r. ⌜ (at .col + r ≤ measures .width) × ((k : ℕ) → k < r
+        → lowers (targetFor measures (now (psf .entry)) (now (gray .entry))) (now (dots .entry))
+        (toggle (now (dots .entry)) (cellAt (measures .width) (at .row) (at .col) + k)) ≡ false) ⌝ }
+{
+    let m = at.row * measures.width + at.col;
+    if m < tested {
+        return 0;
+    }
+    let n = least(16, measures.width - at.col);
+    if any_toggles(peak(measures.radius, c), dots, table, m, n) {
+        return 0;
+    }
+    n
+}
+
+// the end of the run that was tested
+fn run_end(width: usize, at: Cell, tested: usize) -> usize
+    requires { ⌜ (at .row < 256) × (at .col < width) × (width ≤ 256) ⌝ }
+{
+    let m = at.row * width + at.col;
+    if m < tested {
+        return tested;
+    }
+    m + least(16, width - at.col)
+}
+
 // A toggle scan.
 pub fn toggle_all(
     measures: Measures,
@@ -104,9 +156,16 @@ pub fn toggle_all(
         changes: 0,
     };
     let mut cell = Cell { row: 0, col: 0 };
+    let mut tested: usize = 0;
     while cell.row < measures.height {
-        scan = toggle_cell(measures, psf, gray, c, dots, table, scan, cell);
-        cell = next(measures.width, cell);
+        let n = clear_run(measures, psf, gray, c, dots, table, cell, tested);
+        if 0 < n {
+            cell = ahead(measures.width, cell, n);
+        } else {
+            tested = run_end(measures.width, cell, tested);
+            scan = toggle_cell(measures, psf, gray, c, dots, table, scan, cell);
+            cell = next(measures.width, cell);
+        }
     }
     scan
 }

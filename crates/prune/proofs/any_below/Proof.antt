@@ -1,6 +1,5 @@
 -- `prune::any_below` meets its contract: as long as nothing was found, no sum so far is below 0.
 use mathlib.Core.Bool.{true, false, true≢false}
-use mathlib.Core.Logic.{_⊎_, inl, inr}
 use mathlib.Core.Path.{_≡_, sym, _∙_, subst}
 use Prim.Native.Nat.{ℕ, _+_, _*_, _-_, _≤_, _<_}
 use native.Mathlib.Nat.{not-suc-le-zero}
@@ -13,14 +12,10 @@ use mir.Val.{ofZ}
 use Rattle.algebra.proofs.Machine.{Holds, named, of-small, add-fits, add-holds}
 use Rattle.model.specs.Change.{sign}
 use Rattle.prune.specs.Grid.{RunClear}
+use Rattle.prune.proofs.Run.{either}
 use Rattle.prune.proofs.Grid.{run-next}
 use Rattle.prune.proofs.any_below.Statement.{statement}
 use Rattle.prune.proofs.any_below.Tie as tie
-
--- how a branch was left
-either : {A B C : Type 0} → A ⊎ B → (A → C) → (B → C) → C
-either (inl a) f g = f a
-either (inr b) f g = g b
 
 abbrev Inv-loop : tie.InvT-loop
 Inv-loop dots table m from grid at n any₀ k₀ any k =

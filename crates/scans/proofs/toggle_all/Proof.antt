@@ -1,8 +1,9 @@
--- `scans::toggle_all` meets its contract: cell by cell, in raster order, it is the reference's toggle scan.
+-- `scans::toggle_all` meets its contract: cell by cell, in raster order, it is the reference's toggle scan; where a run
+-- of cells is passed over, the reference accepts nothing.
 use mathlib.Core.Path.{sym, _∙_}
-use Prim.Native.Nat.{_*_, _-_, _≤_, _<_}
+use Prim.Native.Nat.{ℕ, _+_, _*_, _-_, _≤_, _<_}
 use native.Mathlib.Omega.{arith}
-use Rattle.algebra.proofs.Grid.{cell<}
+use Rattle.algebra.proofs.Grid.{cell<, rows-apart}
 use Rattle.model.specs.Error.{Target, targetFor, cellAt}
 use Rattle.model.specs.Reference.{Reference, reference}
 use Rattle.model.specs.State.{LaterFits}
@@ -10,21 +11,23 @@ use Rattle.model.specs.Scan.{toggles}
 use Rattle.model.proofs.Attempts.{Sound, entry-sound}
 use Rattle.model.proofs.Scan.{toggles-lawful}
 use Rattle.scans.proofs.Under.{Under, under-start, under-at, under-fits, under-few, under-next, under-end}
+use Rattle.scans.proofs.Under.{under-skip}
+use Rattle.scans.proofs.Visit.{toggle-declined}
 use Rattle.scans.proofs.Under.{cells-done}
 use Rattle.scans.proofs.toggle_all.Statement.{statement}
 use Rattle.scans.proofs.toggle_all.Tie as tie
 
 -- the cells before this one are done
 abbrev Inv-loop : tie.InvT-loop
-Inv-loop measures psf gray c dots₀ table₀ scan₀ at₀ dots table scan at =
-    let cell = cellAt (measures .width) (at .row) (at .col) in
-    Under measures psf gray toggles (reference dots₀ (scan₀ .stats)) cell dots table scan
-    × (at .col < measures .width)
-    × (cell ≤ measures .height * measures .width)
+Inv-loop measures psf gray c dots₀ table₀ scan₀ cell₀ tested₀ dots table scan cell tested =
+    let n = cellAt (measures .width) (cell .row) (cell .col) in
+    Under measures psf gray toggles (reference dots₀ (scan₀ .stats)) n dots table scan
+    × (cell .col < measures .width)
+    × (n ≤ measures .height * measures .width)
 
 abbrev μ-loop : tie.MeasureT-loop
-μ-loop measures psf gray c dots₀ table₀ scan₀ at₀ dots table scan at =
-    measures .height * measures .width - cellAt (measures .width) (at .row) (at .col)
+μ-loop measures psf gray c dots₀ table₀ scan₀ cell₀ tested₀ dots table scan cell tested =
+    measures .height * measures .width - cellAt (measures .width) (cell .row) (cell .col)
 
 loop-holds : tie.Need-loop-holds Inv-loop μ-loop
 loop-holds c =
@@ -52,14 +55,69 @@ module _ (l : tie.At-loop Inv-loop μ-loop) where
       (l .loop .scan .stats)
   fits = under-fits (l .loop .inv .0) (toggles-lawful target) sound (l .loop .inv .2)
 
+-- the cell reached is on the plate
+module _ (v : tie.Then1 Inv-loop μ-loop) where
+  abbrev here : tie.At-loop Inv-loop μ-loop
+  here = v .before .before .before
+
+  abbrev n : ℕ
+  n = cellAt (s here .args .measures .width) (here .loop .cell .row) (here .loop .cell .col)
+
+  is-a-cell : n < s here .args .measures .height * s here .args .measures .width
+  is-a-cell = cell< (v .if1 .taken) (here .loop .inv .1)
+
+  low : here .loop .cell .row < 256
+  low = omega (arith, v .if1 .taken, s here .pre .0 .halftone .high .1)
+
+clear-run-requires : tie.Need-clear-run-requires Inv-loop μ-loop
+clear-run-requires c κs =
+    let v = c .before .before in
+    let l = here v in
+    (fits l .halftone, (fits l .state .table-is, (s l .pre .1, (v .if1 .taken, l .loop .inv .1))))
+
+ahead-requires : tie.Need-ahead-requires Inv-loop μ-loop
+ahead-requires c κs =
+    let v = c .before .before .before .before in
+    let l = here v in
+    (low v, l .loop .inv .1, s l .pre .0 .halftone .wide .1, c .before .clear-run .ensures .0)
+
+loop-less : tie.Need-loop-less Inv-loop μ-loop
+loop-less c =
+    let a = c .before .before in
+    let v = a .before .before .before in
+    omega (arith, c .ahead .ensures .0, c .before .if2 .taken, is-a-cell v)
+
+loop-again : tie.Need-loop-again Inv-loop μ-loop
+loop-again c =
+    let a = c .before .before in
+    let v = a .before .before .before in
+    let l = here v in (
+      under-at (under-skip (n v) (a .clear-run .result) (l .loop .inv .0) (fits l)
+          (λ j h. toggle-declined (target l) (l .loop .dots) (l .loop .scan) (n v + j) (a .clear-run .ensures .1 j h)))
+          (sym (c .ahead .ensures .0)),
+      c .ahead .ensures .1,
+      omega (
+        arith,
+        c .ahead .ensures .0,
+        a .clear-run .ensures .0,
+        rows-apart (s l .args .measures .width) (v .if1 .taken),
+      ),
+    )
+
+run-end-requires : tie.Need-run-end-requires Inv-loop μ-loop
+run-end-requires c κs =
+    let v = c .before .before .before .before in
+    (low v, here v .loop .inv .1, s (here v) .pre .0 .halftone .wide .1)
+
 toggle-cell-requires : tie.Need-toggle-cell-requires Inv-loop μ-loop
 toggle-cell-requires c κs =
-    let l = c .before .before .before .before .before in (
+    let v = c .before .before .before .before .before .before .before in
+    let l = here v in (
       fits l,
       (
         s l .pre .1,
         (
-          c .before .before .if1 .taken,
+          v .if1 .taken,
           l .loop .inv .1,
           under-few (l .loop .inv .0) (toggles-lawful (target l)) (sound l) (l .loop .inv .2),
         ),
@@ -68,34 +126,22 @@ toggle-cell-requires c κs =
 
 next-requires : tie.Need-next-requires Inv-loop μ-loop
 next-requires c κs =
-    let v = c .before .before .before .before .before .before in
-    let l = v .before .before .before in
-    let f = s l .pre .0 .halftone in
-    (omega (arith, v .if1 .taken, f .high .1), l .loop .inv .1, f .wide .1)
+    let v = c .before .before .before .before .before .before .before .before .before .before .before in
+    (low v, here v .loop .inv .1, s (here v) .pre .0 .halftone .wide .1)
 
--- the cell just done is on the plate
-module _ (c : tie.After-next Inv-loop μ-loop) where
-  abbrev inside : tie.Then1 Inv-loop μ-loop
-  inside = c .before .before .before .before .before .before .before
+loop-less-2 : tie.Need-loop-less-2 Inv-loop μ-loop
+loop-less-2 c =
+    let v = c .before .before .before .before .before .before .before .before .before .before .before .before in
+    omega (arith, c .next .ensures .0, is-a-cell v)
 
-  abbrev here : tie.At-loop Inv-loop μ-loop
-  here = inside .before .before .before
-
-  is-a-cell : cellAt (s here .args .measures .width) (here .loop .cell .row) (here .loop .cell .col)
-      < s here .args .measures .height * s here .args .measures .width
-  is-a-cell = cell< (inside .if1 .taken) (here .loop .inv .1)
-
-loop-less : tie.Need-loop-less Inv-loop μ-loop
-loop-less c = omega (arith, c .next .ensures .0, is-a-cell c)
-
-loop-again : tie.Need-loop-again Inv-loop μ-loop
-loop-again c =
+loop-again-2 : tie.Need-loop-again-2 Inv-loop μ-loop
+loop-again-2 c =
     let done = c .before .before .before .before .toggle-cell in
-    let l = here c in (
-      under-at (under-next (l .loop .inv .0) (done .ensures .0) (done .ensures .1 .0) (done .ensures .1 .1))
+    let v = c .before .before .before .before .before .before .before .before .before .before .before .before in (
+      under-at (under-next (here v .loop .inv .0) (done .ensures .0) (done .ensures .1 .0) (done .ensures .1 .1))
           (sym (c .next .ensures .0)),
       c .next .ensures .1,
-      omega (arith, c .next .ensures .0, is-a-cell c),
+      omega (arith, c .next .ensures .0, is-a-cell v),
     )
 
 same-length : tie.Need-same-length Inv-loop μ-loop
@@ -118,10 +164,15 @@ toggle-all-spec =
     Inv-loop
     μ-loop
     loop-holds
-    toggle-cell-requires
-    next-requires
+    clear-run-requires
+    ahead-requires
     loop-less
     loop-again
+    run-end-requires
+    toggle-cell-requires
+    next-requires
+    loop-less-2
+    loop-again-2
     same-length
     same-length-2
     returns)
