@@ -1,5 +1,5 @@
--- What the offsets are worth in rows, entry by entry; and rows without a sum below 0, one row after the other.
-use mathlib.Core.Bool.{Bool, true, false}
+-- What the offsets are worth in rows, entry by entry; and rows in which every trial fails, one after the other.
+use mathlib.Core.Bool.{Bool, true, false, _&&_}
 use mathlib.Core.List.{List}
 use mathlib.Core.Path.{_≡_, refl, sym, _∙_, ap, subst}
 use Prim.Native.Nat.{ℕ, _+_, _*_, _-_, _/_, _%_, _≤_, _<_, min}
@@ -16,7 +16,7 @@ use Rattle.model.specs.Error.{cellAt}
 use Rattle.model.specs.Partners.{worthAt}
 use Rattle.model.specs.Window.{Small}
 use Rattle.partners.proofs.Worths.{worth-small}
-use Rattle.prune.specs.Grid.{worthIn, HoldsGrid, NotBelow, RunClear, RowsClear}
+use Rattle.prune.specs.Grid.{worthIn, HoldsGrid, Fails, RunClear, RowsClear}
 
 module _ (radius : ℕ) (c : List ℤ) (reach side : ℕ) where
   -- one more entry
@@ -39,15 +39,19 @@ module _ (radius : ℕ) (c : List ℤ) (reach side : ℕ) where
       go true = worth-small radius c (q / side + 6 - reach) (q % side + 6 - reach) small
       go false = lit≤ tt
 
--- ---- cells whose sums are not below 0
+-- ---- trials that fail
+pub and-false : (a : Bool) {b : Bool} → b ≡ false → a && b ≡ false
+and-false true e = e
+and-false false e = refl
+
 module _ (dots : List ℕ) (table grid : List ℤ) (m : ℕ) where
   -- one cell more in a row
   pub run-next : {from at k : ℕ} → RunClear dots table grid m from at k
-      → NotBelow dots table m (from + k) (getD grid (at + k) (pos 0))
+      → Fails dots table m (from + k) (getD grid (at + k) (pos 0))
       → RunClear dots table grid m from at (k + 1)
   run-next {from} {at} {k} r e = record { each = λ j h. go j (ℕ-discrete j k) (omega arith) }
     where
-      go : (j : ℕ) → Dec (j ≡ k) → j ≤ k → NotBelow dots table m (from + j) (getD grid (at + j) (pos 0))
+      go : (j : ℕ) → Dec (j ≡ k) → j ≤ k → Fails dots table m (from + j) (getD grid (at + j) (pos 0))
       go j (yes p) h = rw p e
       go j (no p) h = r .each j (omega arith)
 
@@ -65,7 +69,7 @@ module _ {width reach side : ℕ} {dots : List ℕ} {table grid : List ℤ} {row
     where
       go : (j i : ℕ) → j ≤ 2 * reach → i < side → reach ≤ row + j → row + j < y + 1 + reach → reach ≤ col + i
           → Dec (row + j ≡ y + reach)
-          → NotBelow dots table (cellAt width row col) (cellAt width (row + j - reach) (col + i - reach))
+          → Fails dots table (cellAt width row col) (cellAt width (row + j - reach) (col + i - reach))
           (getD grid (j * side + i) (pos 0))
       go j i a b d e f (no p) = r .each j i a b d (omega arith) f
       go j i a b d e f (yes p) =

@@ -1,10 +1,10 @@
--- What the offsets within reach are worth, laid out in rows, and what it means that no partner in them has a sum below
--- 0. The rows may be longer than the reach asks, so that a row is a round number of entries.
-use mathlib.Core.Bool.{false}
+-- What the offsets within reach are worth, laid out in rows, and what it means that every trial in them fails. The
+-- rows may be longer than the reach asks, so that a row is a round number of entries.
+use mathlib.Core.Bool.{false, not, _&&_}
 use mathlib.Core.List.{List}
 use mathlib.Core.Path.{_≡_}
 use Prim.Native.Nat.{ℕ, _+_, _*_, _-_, _/_, _%_, _≤_, _<_}
-use lib.Dec.{leb}
+use lib.Dec.{leb, eqb}
 use lib.IntN.{ℤ, pos, _+ℤ_, _-ℤ_, _*ℤ_}
 use lib.ListN.{length, getD}
 use lib.Signed.{ltZ}
@@ -35,17 +35,19 @@ pub record GridFits (radius : ℕ) (c : List ℤ) (reach side : ℕ) (grid : Lis
   pub small : Small 1048576 c
   pub holds : HoldsGrid radius c reach side ((2 * reach + 1) * side) grid
 
--- the sum of a trial of the cells m and n is not below 0: s(m) × (T(m) - T(n)) + worth
-abbrev pub NotBelow : (dots : List ℕ) (table : List ℤ) (m n : ℕ) (worth : ℤ) → Type 0
-NotBelow dots table m n worth =
-    ltZ (sign dots m *ℤ (getD table m (pos 0) -ℤ getD table n (pos 0)) +ℤ worth) (pos 0) ≡ false
+-- a trial of the cells m and n, by the table: their dots are alike, or s(m) × (T(m) - T(n)) + worth is not below 0
+abbrev pub Fails : (dots : List ℕ) (table : List ℤ) (m n : ℕ) (worth : ℤ) → Type 0
+Fails dots table m n worth =
+    not (eqb (getD dots m 0) (getD dots n 0))
+    && ltZ (sign dots m *ℤ (getD table m (pos 0) -ℤ getD table n (pos 0)) +ℤ worth) (pos 0)
+    ≡ false
 
 -- so it is with each of the n cells from `from` on, the worths standing from `at` on
 pub record RunClear (dots : List ℕ) (table grid : List ℤ) (m from at n : ℕ) : Type 0 where
-  pub each : (k : ℕ) → k < n → NotBelow dots table m (from + k) (getD grid (at + k) (pos 0))
+  pub each : (k : ℕ) → k < n → Fails dots table m (from + k) (getD grid (at + k) (pos 0))
 
 -- so it is with each cell in the rows above `bottom` whose offset from (row, col) is (j - reach, i - reach)
 pub record RowsClear (width bottom reach side : ℕ) (dots : List ℕ) (table grid : List ℤ) (row col : ℕ) : Type 0 where
   pub each : (j i : ℕ) → j ≤ 2 * reach → i < side → reach ≤ row + j → row + j < bottom + reach → reach ≤ col + i
-      → NotBelow dots table (cellAt width row col) (cellAt width (row + j - reach) (col + i - reach))
+      → Fails dots table (cellAt width row col) (cellAt width (row + j - reach) (col + i - reach))
       (getD grid (j * side + i) (pos 0))

@@ -1,6 +1,6 @@
 // Quick tests by the table, without a branch in their inner loops: of a run of cells, whether a toggle is accepted in
-// it; and of all partners of a cell, row by row of those within reach, whether a sum is below 0. Where none is, the
-// trials in order can be left out.
+// it; and of all partners of a cell, row by row of those within reach, whether a swap with one might lower the squared
+// error. Where none does, the trials in order can be left out.
 ghost use mathlib.Core.Bool.{false};
 ghost use mathlib.Core.Path.{_≡_};
 ghost use Prim.Native.Nat.{ℕ, _+_, _*_, _<_, _≤_};
@@ -12,6 +12,7 @@ ghost use Rattle.prune.specs.Run.{TogglesClear};
 ghost use Rattle.prune.specs.Grid.{worthIn, GridFits, RunClear, RowsClear};
 use change::between;
 use change::difference;
+use change::lower_swap;
 use change::peak;
 use change::signed;
 use partners::Cell;
@@ -85,7 +86,7 @@ fn any_below(
     at: usize,
     n: usize,
 ) -> bool
-    requires { ⌜ (m < length (now dots)) × (m < length (now table)) ⌝ }
+    requires { ⌜ (m < length (now dots)) × (length (now table) ≡ length (now dots)) ⌝ }
     requires { ⌜ (from + n ≤ length (now table)) × (at + n ≤ length (now grid)) ⌝ }
     requires { ⌜ Small mostFiltered (now table) ⌝ }
     requires { ⌜ ((k : ℕ) → k < n → natAbs (getD (now grid) (at + k) (pos 0)) ≤ 534773760) ⌝ }
@@ -101,6 +102,54 @@ fn any_below(
         k += 1;
     }
     any
+}
+
+// whether a swap of m with one of the n cells from `from` on lowers the squared error
+fn any_lower(
+    dots: &[u8],
+    table: &[i32],
+    m: usize,
+    from: usize,
+    grid: &[i32],
+    at: usize,
+    n: usize,
+) -> bool
+    requires { ⌜ (m < length (now dots)) × (length (now table) ≡ length (now dots)) ⌝ }
+    requires { ⌜ (from + n ≤ length (now table)) × (at + n ≤ length (now grid)) ⌝ }
+    requires { ⌜ Small mostFiltered (now table) ⌝ }
+    requires { ⌜ ((k : ℕ) → k < n → natAbs (getD (now grid) (at + k) (pos 0)) ≤ 534773760) ⌝ }
+    ensures { λ r. ⌜ (r ≡ false → RunClear (now (dots .entry)) (now (table .entry)) (now (grid .entry)) m from at n) ⌝ }
+{
+    let mut k: usize = 0;
+    while k < n {
+        if lower_swap(dots, table, m, from + k, grid[at + k]) {
+            return true;
+        }
+        k += 1;
+    }
+    false
+}
+
+// the same, by the sums first: there is seldom one below 0
+fn row_lowers(
+    dots: &[u8],
+    table: &[i32],
+    m: usize,
+    from: usize,
+    grid: &[i32],
+    at: usize,
+    n: usize,
+) -> bool
+    requires { ⌜ (m < length (now dots)) × (length (now table) ≡ length (now dots)) ⌝ }
+    requires { ⌜ (from + n ≤ length (now table)) × (at + n ≤ length (now grid)) ⌝ }
+    requires { ⌜ Small mostFiltered (now table) ⌝ }
+    requires { ⌜ ((k : ℕ) → k < n → natAbs (getD (now grid) (at + k) (pos 0)) ≤ 534773760) ⌝ }
+    ensures { λ r. ⌜ (r ≡ false → RunClear (now (dots .entry)) (now (table .entry)) (now (grid .entry)) m from at n) ⌝ }
+{
+    if any_below(dots, table, m, from, grid, at, n) {
+        return any_lower(dots, table, m, from, grid, at, n);
+    }
+    false
 }
 
 // Whether a partner within reach might lower the squared error. A row that is not whole in the table is not tested, and
@@ -138,7 +187,7 @@ pub fn may_lower(
             return true;
         }
         let at = (y + reach - row) * side;
-        if any_below(dots, table, m, from, grid, at, side) {
+        if row_lowers(dots, table, m, from, grid, at, side) {
             return true;
         }
         y += 1;

@@ -1,7 +1,2 @@
--- Laws that the proofs of this crate share.
-pub mod Under
-pub mod Visit
-pub mod Partner
-pub mod Trials
-pub mod Clear
+-- Laws that the proof of this crate uses.
 pub mod Turns

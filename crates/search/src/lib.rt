@@ -16,10 +16,10 @@ use model::Measures;
 use model::Scanned;
 use model::Stats;
 use scans::come_to_rest;
-use scans::swap_all;
-use scans::toggle_all;
 use state::judge_state;
 use sums::kernel;
+use swaps::swap_all;
+use toggles::toggle_all;
 use trial::swap;
 use trial::toggle;
 

@@ -1,10 +1,10 @@
 -- `prune::any_below` meets its contract: as long as nothing was found, no sum so far is below 0.
-use mathlib.Core.Bool.{true, false, true≢false}
+use mathlib.Core.Bool.{true, false, true≢false, not}
 use mathlib.Core.Path.{_≡_, sym, _∙_, subst}
 use Prim.Native.Nat.{ℕ, _+_, _*_, _-_, _≤_, _<_}
 use native.Mathlib.Nat.{not-suc-le-zero}
 use native.Mathlib.Omega.{arith}
-use lib.Dec.{lit<}
+use lib.Dec.{lit<, eqb}
 use lib.IntN.{ℤ, pos, natAbs, _+ℤ_, _-ℤ_, _*ℤ_}
 use lib.ListN.{getD}
 use mir.Syntax.{w32}
@@ -13,7 +13,7 @@ use Rattle.algebra.proofs.Machine.{Holds, named, of-small, add-fits, add-holds}
 use Rattle.model.specs.Change.{sign}
 use Rattle.prune.specs.Grid.{RunClear}
 use Rattle.prune.proofs.Run.{either}
-use Rattle.prune.proofs.Grid.{run-next}
+use Rattle.prune.proofs.Grid.{and-false, run-next}
 use Rattle.prune.proofs.any_below.Statement.{statement}
 use Rattle.prune.proofs.any_below.Tie as tie
 
@@ -33,7 +33,7 @@ add-difference c = omega arith
 difference-requires : tie.Need-difference-requires Inv-loop μ-loop
 difference-requires c κs =
     let s = c .before .before .before in
-    ((s .pre .0 .0, s .pre .0 .1, omega arith), s .pre .1 .1 .0)
+    ((s .pre .0 .0, omega (arith, s .pre .0), omega (arith, s .pre .1 .0)), s .pre .1 .1 .0)
 
 add-sum : tie.Need-add-sum Inv-loop μ-loop
 add-sum c = omega arith
@@ -78,7 +78,9 @@ loop-again c =
           (λ w e. absurd (true≢false (sym (w .1) ∙ e)))
           (λ w e.
           run-next _ _ _ _ (a .before .before .before .loop .inv .0 (sym (w .1) ∙ e))
-          (rw (add-holds (term a) (worth a) (lit< tt) .value) at (w .0 .left))),
+          (and-false
+          (not (eqb (getD (s a .args .dots .now) (s a .args .m) 0) (getD (s a .args .dots .now) (s a .args .from + k a) 0)))
+          (rw (add-holds (term a) (worth a) (lit< tt) .value) at (w .0 .left)))),
       omega arith,
     )
 

@@ -79,15 +79,15 @@ mul-at : tie.Need-mul-at Inv-loop μ-loop
 mul-at c = factors-fit 12 16 (omega arith) (omega arith) tt
 
 -- src/lib.rt:126:12
-any-below-requires : tie.Need-any-below-requires Inv-loop μ-loop
-any-below-requires c κs =
+row-lowers-requires : tie.Need-row-lowers-requires Inv-loop μ-loop
+row-lowers-requires c κs =
     let t = c .before in
     let l = t .before .before in
     let s = l .before .before .before .before in
     let place = cell< (s .pre .0 .0) (s .pre .0 .1) in
     let last : l .loop .y + s .args .reach - s .args .cell .row < 2 * s .args .reach + 1 = omega arith in
     let room = rows-apart (s .args .side) last in (
-      (omega (arith, place, s .pre .1 .0), omega (arith, place, s .pre .1 .0)),
+      (omega (arith, place, s .pre .1 .0), s .pre .1 .0 .1 ∙ sym (s .pre .1 .0 .0)),
       (
         (omega (arith, c .if2 .left), omega (arith, room, s .pre .1 .1 .0)),
         (s .pre .1 .1 .1 .0, λ k h. s .pre .1 .1 .1 .1 _ (omega (arith, room))),
@@ -112,7 +112,7 @@ loop-again c =
     let b = c .before in
     let l = c .before .before .before .before .before in (
       omega arith,
-      rows-more (l .loop .y) (l .loop .inv .0) (omega arith) (l .loop .inv .1) (b .any-below .ensures (c .if3 .left)),
+      rows-more (l .loop .y) (l .loop .inv .0) (omega arith) (l .loop .inv .1) (b .row-lowers .ensures (c .if3 .left)),
     )
 
 -- src/lib.rt:93:1
@@ -140,7 +140,7 @@ may-lower-spec =
     add-at
     sub-at
     mul-at
-    any-below-requires
+    row-lowers-requires
     returns-3
     add-y
     loop-less

@@ -1,4 +1,4 @@
--- `scans::swap_by` meets its contract: at each cell the partners are tried in order, and the first that lowers E is the
+-- `swaps::swap_by` meets its contract: at each cell the partners are tried in order, and the first that lowers E is the
 -- one that a scan accepts there.
 use mathlib.Core.Logic.{_⊎_, inl, inr}
 use mathlib.Core.Path.{_≡_, refl, sym, _∙_, ap, subst}
@@ -20,11 +20,11 @@ use Rattle.model.specs.Partners.{biased, worthAt}
 use Rattle.model.proofs.Scan.{swaps-lawful}
 use Rattle.model.proofs.Attempts.{Sound, entry-sound}
 use Rattle.partners.proofs.Worths.{worth-small}
-use Rattle.scans.proofs.Under.{Under, under-start, under-fits, under-few, under-next, under-at, under-end}
-use Rattle.scans.proofs.Under.{cells-done}
-use Rattle.scans.proofs.Trials.{test-passed, test-failed}
-use Rattle.scans.proofs.swap_by.Statement.{statement}
-use Rattle.scans.proofs.swap_by.Tie as tie
+use Rattle.toggles.proofs.Under.{Under, under-start, under-fits, under-few, under-next, under-at, under-end}
+use Rattle.toggles.proofs.Under.{cells-done}
+use Rattle.swaps.proofs.Trials.{test-passed, test-failed}
+use Rattle.swaps.proofs.swap_by.Statement.{statement}
+use Rattle.swaps.proofs.swap_by.Tie as tie
 
 -- how the search for a partner was left
 either : {A B C : Type 0} → A ⊎ B → (A → C) → (B → C) → C

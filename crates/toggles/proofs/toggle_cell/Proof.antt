@@ -1,4 +1,4 @@
--- `scans::toggle_cell` meets its contract: weighed, then left or made, it is the reference's visit of the cell.
+-- `toggles::toggle_cell` meets its contract: weighed, then left or made, it is the reference's visit of the cell.
 use mathlib.Core.Bool.{Bool}
 use mathlib.Core.Path.{_≡_, sym, _∙_, ap, subst}
 use Prim.Native.Nat.{ℕ, _^_, _≤_, _<_}
@@ -14,9 +14,9 @@ use Rattle.model.specs.Error.{Target, targetFor, cellAt}
 use Rattle.model.specs.Reference.{toggle, change, lowers}
 use Rattle.model.specs.State.{LaterFits}
 use Rattle.window.proofs.Rows.{index-fits}
-use Rattle.scans.proofs.Visit.{visit-none, visit-one, toggle-declined, toggle-accepted}
-use Rattle.scans.proofs.toggle_cell.Statement.{statement}
-use Rattle.scans.proofs.toggle_cell.Tie as tie
+use Rattle.toggles.proofs.Visit.{visit-none, visit-one, toggle-declined, toggle-accepted}
+use Rattle.toggles.proofs.toggle_cell.Statement.{statement}
+use Rattle.toggles.proofs.toggle_cell.Tie as tie
 
 -- what is known from the start
 module _ (k : tie.After-struct-known) where

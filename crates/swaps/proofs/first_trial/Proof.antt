@@ -1,4 +1,4 @@
--- `scans::first_trial` meets its contract: from the first offset on all is tried, and where the rows in reach are clear
+-- `swaps::first_trial` meets its contract: from the first offset on all is tried, and where the rows in reach are clear
 -- every trial fails.
 use mathlib.Core.Path.{_≡_, refl, sym, _∙_, subst}
 use Prim.Native.Nat.{ℕ, _≤_, _<_}
@@ -10,10 +10,10 @@ use Rattle.model.specs.Basic.{AtMost}
 use Rattle.model.specs.Error.{targetFor, cellAt}
 use Rattle.prune.proofs.Grid.{worth-in-small}
 use Rattle.trial.proofs.Laws.{table-small}
-use Rattle.scans.proofs.Trials.{all-failed}
-use Rattle.scans.proofs.Clear.{offset-near, none-lowers}
-use Rattle.scans.proofs.first_trial.Statement.{statement}
-use Rattle.scans.proofs.first_trial.Tie as tie
+use Rattle.swaps.proofs.Trials.{all-failed}
+use Rattle.swaps.proofs.Clear.{offset-near, none-lowers}
+use Rattle.swaps.proofs.first_trial.Statement.{statement}
+use Rattle.swaps.proofs.first_trial.Tie as tie
 
 may-lower-requires : tie.Need-may-lower-requires
 may-lower-requires c κs =

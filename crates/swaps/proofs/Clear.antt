@@ -1,11 +1,10 @@
--- Rows without a sum below 0 hold no partner that lowers E: what the quick test shows of the trials of a cell.
-use mathlib.Core.Bool.{Bool, true, false, _&&_, not}
+-- Rows in which every trial fails hold no partner that lowers E: what the quick test shows of the trials of a cell.
+use mathlib.Core.Bool.{Bool, true, false, _&&_}
 use mathlib.Core.List.{List, [], _∷_}
 use mathlib.Core.Path.{_≡_, refl, sym, _∙_, ap, ap₂, subst}
 use Prim.Native.Nat.{ℕ, _+_, _*_, _-_, _≤_, _<_}
 use native.Mathlib.Omega.{arith}
 use borrow.Author.Tests.{le-leb}
-use lib.Dec.{eqb}
 use lib.IntN.{ℤ, pos, negsuc, natAbs, _-ℤ_}
 use lib.ListN.{length, getD}
 use Rattle.algebra.proofs.Grid.{cell<, cell-row, cell-column}
@@ -19,8 +18,8 @@ use Rattle.model.specs.Refusal.{HalftoneFits}
 use Rattle.model.specs.Scan.{suits}
 use Rattle.model.specs.Window.{HoldsKernel}
 use Rattle.model.proofs.Partners.{Within, itself, entry-within}
-use Rattle.prune.specs.Grid.{worthIn, GridFits, NotBelow, RowsClear}
-use Rattle.scans.proofs.Partner.{landed, stands, trial-is}
+use Rattle.prune.specs.Grid.{worthIn, GridFits, Fails, RowsClear}
+use Rattle.swaps.proofs.Partner.{landed, stands, trial-is}
 
 -- a coordinate within reach, 6 added
 near-by : (q d : ℕ) → natAbs (pos d -ℤ pos 6) ≤ q → (6 ≤ d + q) × (d ≤ 6 + q)
@@ -56,10 +55,6 @@ entry-is r c reach side grid g down right y x =
     g .holds .at (j * side + i) (cell< low short)
     ∙ rw (cell-row {y = j} short, cell-column j short, le-leb i (2 * reach) (omega arith), row, column) refl
 
-and-false : (a : Bool) {b : Bool} → b ≡ false → a && b ≡ false
-and-false true e = e
-and-false false e = refl
-
 -- no partner at an offset within reach suits and lowers E
 module _ (w h r : ℕ) (psf gray dots : List ℕ) (n : ℕ) (f : HalftoneFits w h r psf gray dots n) (c : List ℤ)
     (k : HoldsKernel r psf c) (row col : ℕ) (vertical : row < h) (across : col < w) {table : List ℤ}
@@ -84,10 +79,10 @@ module _ (w h r : ℕ) (psf gray dots : List ℕ) (n : ℕ) (f : HalftoneFits w 
           let o : ℕ = cellAt w (row + down - 6) (col + right - 6) in
           let row-is : row + (down + reach - 6) - reach ≡ row + down - 6 = omega arith in
           let column-is : col + (right + reach - 6) - reach ≡ col + right - 6 = omega arith in
-          let passed : NotBelow dots table (cellAt w row col) o (worthAt r c down right) =
+          let passed : Fails dots table (cellAt w row col) o (worthAt r c down right) =
           rw (row-is, column-is, entry-is r c reach side grid g down right y x) at
           (clear .each (down + reach - 6) (right + reach - 6)
           (omega arith) (omega (arith, g .wide)) (omega arith) (omega arith) (omega arith)) in
           sym (trial-is w h r psf gray dots n f c k row col vertical across down right e l
           (sym (stands w h row col across down right l)) refl
-          (sym (and-false (not (eqb (getD dots (cellAt w row col) 0) (getD dots o 0))) passed)))
+          (sym passed))

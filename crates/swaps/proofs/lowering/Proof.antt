@@ -1,4 +1,4 @@
--- `scans::lowering` meets its contract: off the plate no swap suits, and on it the test by the table is that of the
+-- `swaps::lowering` meets its contract: off the plate no swap suits, and on it the test by the table is that of the
 -- reference.
 use mathlib.Core.Bool.{Bool, true, false}
 use mathlib.Core.Path.{_≡_, refl, sym, _∙_, subst}
@@ -20,9 +20,9 @@ use Rattle.model.specs.Window.{HoldsKernel}
 use Rattle.partners.proofs.Worths.{worth-small}
 use Rattle.trial.proofs.Laws.{table-small}
 use Rattle.window.proofs.Rows.{index-fits}
-use Rattle.scans.proofs.Partner.{partner-there, partner-missing, trial-is}
-use Rattle.scans.proofs.lowering.Statement.{statement}
-use Rattle.scans.proofs.lowering.Tie as tie
+use Rattle.swaps.proofs.Partner.{partner-there, partner-missing, trial-is}
+use Rattle.swaps.proofs.lowering.Statement.{statement}
+use Rattle.swaps.proofs.lowering.Tie as tie
 
 -- what is known from the start
 module _ (s : tie.Start) where

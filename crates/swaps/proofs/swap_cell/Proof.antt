@@ -1,4 +1,4 @@
--- `scans::swap_cell` meets its contract: the partner found stands on the plate, its dot unlike, and the swap with it is
+-- `swaps::swap_cell` meets its contract: the partner found stands on the plate, its dot unlike, and the swap with it is
 -- the one that a scan accepts there.
 use mathlib.Core.Bool.{true}
 use mathlib.Core.Path.{_≡_, sym, _∙_, subst}
@@ -13,10 +13,10 @@ use Rattle.model.specs.Error.{Target, targetFor, cellAt}
 use Rattle.model.specs.Partners.{HoldsOffsets, biased, lands}
 use Rattle.model.specs.Scan.{Lowers}
 use Rattle.model.specs.State.{LaterFits}
-use Rattle.scans.proofs.Partner.{landed, stands, suits-lands, suits-unlike}
-use Rattle.scans.proofs.Visit.{visit-none, visit-one, swaps-over, swap-accepted}
-use Rattle.scans.proofs.swap_cell.Statement.{statement}
-use Rattle.scans.proofs.swap_cell.Tie as tie
+use Rattle.swaps.proofs.Partner.{landed, stands, suits-lands, suits-unlike}
+use Rattle.toggles.proofs.Visit.{visit-none, visit-one, swaps-over, swap-accepted}
+use Rattle.swaps.proofs.swap_cell.Statement.{statement}
+use Rattle.swaps.proofs.swap_cell.Tie as tie
 
 -- what is known from the start
 module _ (s : tie.Start) where

@@ -1,12 +1,12 @@
--- `scans::run_end` is safe: the numbers are small.
+-- `toggles::run_end` is safe: the numbers are small.
 use Prim.Native.Nat.{_*_, _≤_}
 use native.Mathlib.Nat.{mul-le-mul}
 use native.Mathlib.Omega.{arith}
 use borrow.Author.Needs.{needs}
 use Rattle.algebra.proofs.Machine.{factors-fit}
 use Rattle.window.proofs.Rows.{index-fits}
-use Rattle.scans.proofs.run_end.Statement.{statement}
-use Rattle.scans.proofs.run_end.Tie as tie
+use Rattle.toggles.proofs.run_end.Statement.{statement}
+use Rattle.toggles.proofs.run_end.Tie as tie
 
 mul-m : tie.Need-mul-m
 mul-m c = factors-fit 256 256 (omega arith) (omega arith) tt

@@ -1,11 +1,11 @@
--- `scans::swap_all` meets its contract: the local lists hold the offsets within reach and what they are worth, in their
+-- `swaps::swap_all` meets its contract: the local lists hold the offsets within reach and what they are worth, in their
 -- order and in rows.
 use native.Mathlib.Nat.{mul-le-mul}
 use native.Mathlib.Omega.{arith}
 use borrow.Author.Needs.{needs}
 use Prim.Native.Nat.{_+_, _*_, _≤_}
-use Rattle.scans.proofs.swap_all.Statement.{statement}
-use Rattle.scans.proofs.swap_all.Tie as tie
+use Rattle.swaps.proofs.swap_all.Statement.{statement}
+use Rattle.swaps.proofs.swap_all.Tie as tie
 
 slice-aggregate-within-reach : tie.Need-slice-aggregate-within-reach
 slice-aggregate-within-reach c = search needs

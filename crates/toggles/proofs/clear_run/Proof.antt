@@ -1,4 +1,4 @@
--- `scans::clear_run` meets its contract: where the test finds nothing, no toggle in the run lowers E.
+-- `toggles::clear_run` meets its contract: where the test finds nothing, no toggle in the run lowers E.
 use mathlib.Core.Bool.{false}
 use mathlib.Core.Path.{_≡_, sym, _∙_, ap, subst}
 use Prim.Native.Nat.{ℕ, _+_, _*_, _≤_, _<_}
@@ -18,8 +18,8 @@ use Rattle.model.specs.Error.{cellAt}
 use Rattle.model.specs.Refusal.{HalftoneFits}
 use Rattle.trial.proofs.Laws.{table-small, at-small, toggle-is}
 use Rattle.window.proofs.Rows.{index-fits}
-use Rattle.scans.proofs.clear_run.Statement.{statement}
-use Rattle.scans.proofs.clear_run.Tie as tie
+use Rattle.toggles.proofs.clear_run.Statement.{statement}
+use Rattle.toggles.proofs.clear_run.Tie as tie
 
 -- what is known from the start
 module _ (k : tie.After-struct-known3) where

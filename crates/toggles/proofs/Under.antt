@@ -15,7 +15,7 @@ use Rattle.model.specs.State.{LaterFits}
 use Rattle.model.specs.Scan.{Rule, Sweep, sweepOf, tryEach, visit, sweepTo, resultOf, scan}
 use Rattle.model.proofs.Attempts.{Sound, entry-stats}
 use Rattle.model.proofs.Scan.{Lawful, sweep-later, sweep-counts}
-use Rattle.scans.proofs.Visit.{visit-none}
+use Rattle.toggles.proofs.Visit.{visit-none}
 
 pub record Under (m : Measures) (psf gray : List ℕ) (rule : Rule) (p : Reference) (n : ℕ)
     (dots : List ℕ) (table : List ℤ) (r : ScanResult) : Type 0 where

@@ -1,4 +1,4 @@
--- `scans::toggle_all` meets its contract: cell by cell, in raster order, it is the reference's toggle scan; where a run
+-- `toggles::toggle_all` meets its contract: cell by cell, in raster order, it is the reference's toggle scan; where a run
 -- of cells is passed over, the reference accepts nothing.
 use mathlib.Core.Path.{sym, _∙_}
 use Prim.Native.Nat.{ℕ, _+_, _*_, _-_, _≤_, _<_}
@@ -10,12 +10,12 @@ use Rattle.model.specs.State.{LaterFits}
 use Rattle.model.specs.Scan.{toggles}
 use Rattle.model.proofs.Attempts.{Sound, entry-sound}
 use Rattle.model.proofs.Scan.{toggles-lawful}
-use Rattle.scans.proofs.Under.{Under, under-start, under-at, under-fits, under-few, under-next, under-end}
-use Rattle.scans.proofs.Under.{under-skip}
-use Rattle.scans.proofs.Visit.{toggle-declined}
-use Rattle.scans.proofs.Under.{cells-done}
-use Rattle.scans.proofs.toggle_all.Statement.{statement}
-use Rattle.scans.proofs.toggle_all.Tie as tie
+use Rattle.toggles.proofs.Under.{Under, under-start, under-at, under-fits, under-few, under-next, under-end}
+use Rattle.toggles.proofs.Under.{under-skip}
+use Rattle.toggles.proofs.Visit.{toggle-declined}
+use Rattle.toggles.proofs.Under.{cells-done}
+use Rattle.toggles.proofs.toggle_all.Statement.{statement}
+use Rattle.toggles.proofs.toggle_all.Tie as tie
 
 -- the cells before this one are done
 abbrev Inv-loop : tie.InvT-loop

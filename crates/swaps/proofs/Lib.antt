@@ -1,0 +1,4 @@
+-- Laws that the proofs of this crate share.
+pub mod Partner
+pub mod Trials
+pub mod Clear

@@ -1,0 +1,3 @@
+-- Laws that the proofs of both scans share.
+pub mod Visit
+pub mod Under
