@@ -1,0 +1,126 @@
+/*
+ * platemaker: turns gray into a one-colour plate of dots by direct binary search, with a squared error that is proved
+ * to be that of the dots. Build the library with `rt staticlib platemaker` and link target/staticlib/libplatemaker.a.
+ *
+ * Each function answers a status: 0, or the refusal number of document 01 (docs/GUIDE.md lists them). On a refusal
+ * nothing behind any pointer changes, save the byte offset of the two functions for sheets.
+ *
+ * A buffer is a pointer and a length in elements. A buffer of a wrong length is refused (5), so a length must be the
+ * true one. Pointers are never null, not even with length 0; buffers and results of one call do not overlap.
+ *
+ *   psf     the spread: (2 * radius + 1)^2 bytes, row by row, with a sum of 1 to 1,024
+ *   gray    one byte a cell, row by row: 0 is paper, 255 is black
+ *   dots    one byte a cell: 0 is blank, 1 is a dot
+ *   table   one entry a cell: the filtered error. pm_start fills it and the later calls keep it
+ *   stats   PM_STATS numbers, document 01's ledger, in the order of the constants below. pm_start fills it and the
+ *           later calls keep it. A count below 0 is taken for one above all limits, and so draws 21
+ *
+ * There is no state between calls: calls on different buffers may run at the same time. docs/GUIDE.md says how much
+ * stack a call takes.
+ */
+#ifndef PLATEMAKER_H
+#define PLATEMAKER_H
+
+#include <stddef.h>
+#include <stdint.h>
+
+#ifdef __cplusplus
+extern "C" {
+#endif
+
+/* the numbers in stats */
+enum {
+    PM_START_ERROR, /* the squared error at the start */
+    PM_ERROR,       /* the squared error now */
+    PM_START_DOTS,  /* the dots at the start */
+    PM_ON,          /* toggles on */
+    PM_OFF,         /* toggles off */
+    PM_SWAPS,       /* swaps */
+    PM_STATS        /* how many numbers there are */
+};
+
+/* the numbers in measures, which pm_read_sheet fills */
+enum {
+    PM_WIDTH,    /* 1 to 256 */
+    PM_HEIGHT,   /* 1 to 256 */
+    PM_RADIUS,   /* of the psf, 0 to 3 */
+    PM_REACH,    /* of a swap in a scan, 0 to 6 */
+    PM_START,    /* the kind of start: 0 blank, 1 ordered, 2 the dots given */
+    PM_MEASURES  /* how many numbers there are */
+};
+
+/* The autocorrelation of a psf: (4 * radius + 1)^2 numbers, row by row, offsets rising from -2 * radius. Draws 2, 5, 6. */
+uint32_t pm_autocorrelation(size_t radius, const uint8_t *psf, size_t psf_len, int32_t *out, size_t out_len);
+
+/* The filtered error of every cell (document 01's table), into table. Draws 1, 2, 5, 6, 7. */
+uint32_t pm_filtered_error(size_t width, size_t height, size_t radius, const uint8_t *psf, size_t psf_len,
+                           const uint8_t *gray, size_t gray_len, const uint8_t *dots, size_t dots_len,
+                           int32_t *table, size_t table_len);
+
+/* The squared error, into *error. Draws 1, 2, 5, 6, 7. */
+uint32_t pm_squared_error(size_t width, size_t height, size_t radius, const uint8_t *psf, size_t psf_len,
+                          const uint8_t *gray, size_t gray_len, const uint8_t *dots, size_t dots_len, int64_t *error);
+
+/* A start of the kind given: writes dots (with kind 2 they are read and stay), table and fresh stats. Draws 1 to 7. */
+uint32_t pm_start(size_t width, size_t height, size_t radius, size_t reach, size_t start, const uint8_t *psf,
+                  size_t psf_len, const uint8_t *gray, size_t gray_len, uint8_t *dots, size_t dots_len, int32_t *table,
+                  size_t table_len, int64_t *stats, size_t stats_len);
+
+/*
+ * An attempt to toggle the dot at (row, col). *change is what the toggle adds to the squared error. Below 0 it was
+ * accepted: dots, table and stats have changed. Else it was declined, and they have not. Draws 1 to 8, 20, 21.
+ */
+uint32_t pm_try_toggle(size_t width, size_t height, size_t radius, size_t reach, size_t start, const uint8_t *psf,
+                       size_t psf_len, const uint8_t *gray, size_t gray_len, uint8_t *dots, size_t dots_len,
+                       int32_t *table, size_t table_len, int64_t *stats, size_t stats_len, size_t row, size_t col,
+                       int64_t *change);
+
+/* An attempt to swap the dots at (row, col) and (row2, col2); *change as above. Draws 1 to 9, 20, 21, 22. */
+uint32_t pm_try_swap(size_t width, size_t height, size_t radius, size_t reach, size_t start, const uint8_t *psf,
+                     size_t psf_len, const uint8_t *gray, size_t gray_len, uint8_t *dots, size_t dots_len,
+                     int32_t *table, size_t table_len, int64_t *stats, size_t stats_len, size_t row, size_t col,
+                     size_t row2, size_t col2, int64_t *change);
+
+/* A toggle scan: a toggle is attempted at every cell, row by row. *changes is how many were accepted. Draws 1 to 7, 20, 21. */
+uint32_t pm_toggle_scan(size_t width, size_t height, size_t radius, size_t reach, size_t start, const uint8_t *psf,
+                        size_t psf_len, const uint8_t *gray, size_t gray_len, uint8_t *dots, size_t dots_len,
+                        int32_t *table, size_t table_len, int64_t *stats, size_t stats_len, uint64_t *changes);
+
+/*
+ * A swap scan: at every cell, row by row, the swaps with the cells within reach are attempted, farthest first, up to
+ * the first that is accepted. *changes is how many were accepted. Draws 1 to 7, 20, 21.
+ */
+uint32_t pm_swap_scan(size_t width, size_t height, size_t radius, size_t reach, size_t start, const uint8_t *psf,
+                      size_t psf_len, const uint8_t *gray, size_t gray_len, uint8_t *dots, size_t dots_len,
+                      int32_t *table, size_t table_len, int64_t *stats, size_t stats_len, uint64_t *changes);
+
+/*
+ * A settling: toggle scans until one accepts nothing, then a swap scan; if that accepted something, again. No toggle
+ * and no swap within reach then lowers the squared error. *scans is how many scans were made. Draws 1 to 7, 20, 21.
+ */
+uint32_t pm_converge(size_t width, size_t height, size_t radius, size_t reach, size_t start, const uint8_t *psf,
+                     size_t psf_len, const uint8_t *gray, size_t gray_len, uint8_t *dots, size_t dots_len,
+                     int32_t *table, size_t table_len, int64_t *stats, size_t stats_len, uint64_t *scans);
+
+/*
+ * Reads a sheet. The buffers may be longer than needed: the sheet stands at their front, and what lies past it stays.
+ * With start 0 or 1 dots are not touched. measures has PM_MEASURES numbers. Draws 5 (measures of another length) and 10,
+ * 11, 12 with *offset, the byte offset of the place; with 5 it is 0. *offset is written only on a refusal.
+ */
+uint32_t pm_read_sheet(const uint8_t *bytes, size_t bytes_len, uint8_t *psf, size_t psf_len, uint8_t *gray,
+                       size_t gray_len, uint8_t *dots, size_t dots_len, size_t *measures, size_t measures_len,
+                       size_t *offset);
+
+/*
+ * Writes a sheet with start 2 to the front of out, and its length to *length. Draws 1 to 5, 7, and 12 where out is too
+ * short. *offset is written only on a refusal: out_len with 12, else 0. *length is written only on success.
+ */
+uint32_t pm_write_sheet(size_t width, size_t height, size_t radius, size_t reach, size_t start, const uint8_t *psf,
+                        size_t psf_len, const uint8_t *gray, size_t gray_len, const uint8_t *dots, size_t dots_len,
+                        uint8_t *out, size_t out_len, size_t *length, size_t *offset);
+
+#ifdef __cplusplus
+}
+#endif
+
+#endif
