@@ -1,8 +1,8 @@
--- The C interface (include/platemaker.h), whose functions answer in numbers. Each makes one call of document 01. Here is
--- how an answer is laid out behind the pointers, how a ledger (`Stats`) and measures stand in a slice of numbers, and
+-- The C interface (include/platemaker.h), whose functions answer in numbers. Each makes one call of document 01. Here
+-- is how an answer is laid out behind the pointers, how a ledger (`Stats`) and measures stand in a slice of numbers, and
 -- that such a slice is judged like every other: 5 where its length is wrong.
 use mathlib.Core.Bool.{not}
-use mathlib.Core.List.{List, [], _∷_}
+use mathlib.Core.List.{List, [], _∷_, _++_}
 use Prim.Native.Nat.{ℕ, _-_, _^_}
 use lib.Dec.{eqb}
 use lib.IntN.{ℤ, pos, negsuc}
@@ -12,10 +12,12 @@ use Rattle.model.specs.declared.Stats.{Stats}
 use Rattle.model.specs.declared.ScanResult.{ScanResult}
 use Rattle.model.specs.declared.ConvergeResult.{ConvergeResult}
 use Rattle.model.specs.Basic.{pick}
-use Rattle.model.specs.Refusal.{_when_, firstOf, badSize, badRadius, badReach, badKind}
+use Rattle.model.specs.Refusal.{Refusal, _when_, firstOf, badSize, badRadius, badReach, badKind}
 use Rattle.model.specs.Reference.{Tried, accepted, declined}
 use Rattle.model.specs.Calls.{Reply, result, refused, Outcome, unless, Buffers}
 use Rattle.model.specs.Calls.{startCall, toggleCall, swapCall, toggleScanCall, swapScanCall, convergeCall}
+use Rattle.model.specs.Lists.{Call, toggleAt, swapAt, toggleScan, swapScan, convergence}
+use Rattle.model.specs.Lists.{Result, tried, swept, rested, Held, outcome}
 use Rattle.model.specs.SheetCalls as Sheet
 
 -- ---- an answer in numbers
@@ -57,16 +59,16 @@ statsIn l =
       swaps = countOf (getD l 5 (pos 0));
     }
 
+-- 1 to 4
+abbrev pub badMeasures : Measures → List Refusal
+badMeasures m = badSize (m .width) (m .height) ∷ badRadius (m .radius) ∷ badReach (m .reach) ∷ badKind (m .start) ∷ []
+
 -- 5 where there are not six, in its place: after 1 to 4
+abbrev pub badStatsLength : List ℤ → List Refusal
+badStatsLength stats = 5 when not (eqb (length stats) 6) ∷ []
+
 unfoldable pub sliceRefusal : Measures → List ℤ → ℕ
-sliceRefusal m stats =
-    firstOf
-    (badSize (m .width) (m .height)
-    ∷ badRadius (m .radius)
-    ∷ badReach (m .reach)
-    ∷ badKind (m .start)
-    ∷ 5 when not (eqb (length stats) 6)
-    ∷ [])
+sliceRefusal m stats = firstOf (badMeasures m ++ badStatsLength stats)
 
 -- ---- starts and later calls, with the ledger in a slice
 module _ (m : Measures) (psf gray dots : List ℕ) (table stats : List ℤ) where
@@ -107,6 +109,47 @@ scanNumbers r = numbers (r .stats)
 
 abbrev pub convergeNumbers : ConvergeResult → List ℤ
 convergeNumbers r = numbers (r .stats)
+
+-- ---- lists of its later calls: each handed what the last one left behind the pointers
+pub record Slices : Type 0 where
+  pub dots : List ℕ
+  pub table : List ℤ
+  pub stats : List ℤ
+
+-- what later calls are handed, in slices, and what stands in slices for them
+abbrev pub slicesOf : Held → Slices
+slicesOf h = record { dots = h .dots; table = h .table; stats = numbers (h .stats) }
+
+abbrev pub heldIn : Slices → Held
+heldIn h = record { dots = h .dots; table = h .table; stats = statsIn (h .stats) }
+
+-- the ledger's slice after a call
+abbrev pub statsAfter : List ℤ → Reply Result → List ℤ
+statsAfter l (result (tried t)) = triedNumbers l t
+statsAfter l (result (swept r)) = scanNumbers r
+statsAfter l (result (rested r)) = convergeNumbers r
+statsAfter l (refused n) = l
+
+abbrev pub leave : Slices → Outcome Result Buffers → Slices
+leave h o =
+    record { dots = o .buffer .dots; table = o .buffer .table; stats = statsAfter (h .stats) (o .reply) }
+
+module _ (m : Measures) (psf gray : List ℕ) where
+  abbrev pub callOver : Slices → Call → Outcome Result Buffers
+  callOver h (toggleAt row col) = outcome tried (toggleOver m psf gray (h .dots) (h .table) (h .stats) row col)
+  callOver h (swapAt row col row′ col′) =
+      outcome tried (swapOver m psf gray (h .dots) (h .table) (h .stats) row col row′ col′)
+  callOver h toggleScan = outcome swept (toggleScanOver m psf gray (h .dots) (h .table) (h .stats))
+  callOver h swapScan = outcome swept (swapScanOver m psf gray (h .dots) (h .table) (h .stats))
+  callOver h convergence = outcome rested (convergeOver m psf gray (h .dots) (h .table) (h .stats))
+
+  -- every answer in order, and what is left
+  unfoldable pub runOver : Slices → List Call → List (Reply Result) × Slices
+  runOver h [] = ([], h)
+  runOver h (c ∷ l) =
+      let o = callOver h c in
+      let r = runOver (leave h o) l in
+      (o .reply ∷ r .0, r .1)
 
 -- ---- sheets, whose refusals have a byte offset
 abbrev pub sheetStatus : {A : Type 0} → Sheet.Reply A → ℕ

@@ -1,7 +1,6 @@
 -- How an answer is laid out: numbers into a slice, and a call's outcome against what the functions answer and leave.
-use mathlib.Core.Bool.{not}
 use mathlib.Core.List.{List, [], _∷_, _++_, append-nil}
-use mathlib.Core.Path.{_≡_, refl, sym, _∙_, ap}
+use mathlib.Core.Path.{_≡_, refl, sym, _∙_, ap, subst}
 use Prim.Native.Nat.{ℕ, _+_, _<_, _^_}
 use native.Mathlib.Omega.{arith}
 use borrow.Author.Tests.{eq-eqb, ne-eqb, eqb-true, not-false}
@@ -15,12 +14,14 @@ use mir.Syntax.{w64}
 use mir.Val.{toZ, ofZ, hbits}
 use Rattle.model.specs.declared.Measures.{Measures}
 use Rattle.model.specs.declared.Stats.{Stats}
-use Rattle.model.specs.Refusal.{Refusal, _when_, firstOf, badSize, badRadius, badReach, badKind}
+use Rattle.model.specs.Refusal.{firstOf}
 use Rattle.model.specs.Calls.{Reply, Outcome, Buffers}
-use Rattle.model.specs.Interface.{status, after, numbers, countOf, statsIn, sliceRefusal, overStats}
+use Rattle.model.specs.Interface.{status, after, numbers, countOf, statsIn}
+use Rattle.model.specs.Interface.{badMeasures, badStatsLength, sliceRefusal, overStats}
 use Rattle.model.specs.Interface.{sheetStatus, offsetAfter, sheetAfter, measureNumbers, readOver}
 use Rattle.model.specs.SheetCalls.{readCall}
 use Rattle.model.specs.SheetCalls as Sheet
+use Rattle.platemaker.specs.Storable.{Holds}
 use Rattle.model.proofs.Refusal.{none, by-first, by-second}
 use Rattle.model.proofs.Calls.{is-refused, is-done}
 
@@ -80,36 +81,34 @@ module _ (l : List ℤ) where
       rw (a, b, c, d, whole 0 f0, whole 1 f1, whole 2 f2, whole 3 f3, whole 4 f4, whole 5 f5) refl
 
 -- ---- the judge of a slice that is to hold a ledger
--- 1 to 4, then 5
-abbrev measured : Measures → List Refusal
-measured m = badSize (m .width) (m .height) ∷ badRadius (m .radius) ∷ badReach (m .reach) ∷ badKind (m .start) ∷ []
-
-abbrev long : List ℤ → List Refusal
-long stats = 5 when not (eqb (length stats) 6) ∷ []
-
-module _ (m : Measures) (stats : List ℤ) {x : ℕ} (e : x ≡ firstOf (measured m)) where
+module _ (m : Measures) (stats : List ℤ) {x : ℕ} (e : x ≡ firstOf (badMeasures m)) where
   pub measures-refused : (x ≡ 0 → ⊥) → x ≡ sliceRefusal m stats
   unfolding sliceRefusal
-  measures-refused = by-first (measured m) (long stats) tt e
+  measures-refused = by-first (badMeasures m) (badStatsLength stats) tt e
 
   pub length-refused : x ≡ 0 → (length stats ≡ 6 → ⊥) → 5 ≡ sliceRefusal m stats
   unfolding sliceRefusal
   length-refused z h =
-      let drawn : 5 ≡ firstOf (long stats) = rw (ne-eqb (length stats) 6 h) refl in
-      by-second (measured m) (long stats) tt e z drawn
+      let drawn : 5 ≡ firstOf (badStatsLength stats) = rw (ne-eqb (length stats) 6 h) refl in
+      by-second (badMeasures m) (badStatsLength stats) tt e z drawn
 
   pub none-refused : x ≡ 0 → length stats ≡ 6 → 0 ≡ sliceRefusal m stats
   unfolding sliceRefusal
   none-refused z h =
-      let drawn : 0 ≡ firstOf (long stats) = rw (eq-eqb (length stats) 6 h) refl in
-      by-second (measured m) (long stats) tt e z drawn
+      let drawn : 0 ≡ firstOf (badStatsLength stats) = rw (eq-eqb (length stats) 6 h) refl in
+      by-second (badMeasures m) (badStatsLength stats) tt e z drawn
 
 -- a slice that is taken holds six
 pub slice-six : (m : Measures) (stats : List ℤ) {n : ℕ} → n ≡ sliceRefusal m stats → n ≡ 0 → length stats ≡ 6
 unfolding sliceRefusal
 slice-six m stats e z =
-    let (_, (_, (_, (_, (exact, _))))) = none (measured m ++ long stats) tt e z in
+    let (_, (_, (_, (_, (exact, _))))) = none (badMeasures m ++ badStatsLength stats) tt e z in
     eqb-true (length stats) 6 (not-false (eqb (length stats) 6) exact)
+
+-- what laying out an answer requires
+pub to-lay : {A : Type 0} (P : A → Type 0) (m : Measures) (stats : List ℤ) {n : ℕ} {r answer : Reply A}
+    → n ≡ sliceRefusal m stats → n ≡ 0 → r ≡ answer → Holds P answer → (length stats ≡ 6) × Holds P r
+to-lay P m stats e z k h = (slice-six m stats e z, subst (Holds P) (sym k) h)
 
 -- ---- a start or a later call, with the ledger in a slice: what the function answers and leaves, one number more
 -- behind a pointer

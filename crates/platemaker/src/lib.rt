@@ -94,7 +94,7 @@ fn judge_stats(measures: Measures, stats: &[i64]) -> u32
     0
 }
 
-// ---- an answer, laid out
+// lays the answer of a start out: its status, and the ledger into its slice
 fn lay_start(answer: Started, stats: &mut [i64]) -> u32
     requires { ⌜ length (now stats) ≡ 6 ⌝ }
     requires { ⌜ Holds Storable (started answer) ⌝ }
@@ -110,6 +110,7 @@ fn lay_start(answer: Started, stats: &mut [i64]) -> u32
     }
 }
 
+// the same of an attempt, with its change
 fn lay_attempt(answer: Attempt, stats: &mut [i64], change: &mut i64) -> u32
     requires { ⌜ length (now stats) ≡ 6 ⌝ }
     requires { ⌜ Holds TriedStorable (attempted answer) ⌝ }
@@ -123,14 +124,15 @@ fn lay_attempt(answer: Attempt, stats: &mut [i64], change: &mut i64) -> u32
             *change = delta;
             0
         }
-        Attempt::Declined(delta) => {
-            *change = delta;
+        Attempt::Declined(rise) => {
+            *change = rise;
             0
         }
         Attempt::Refused(number) => number,
     }
 }
 
+// the same of a scan, with its accepted changes
 fn lay_scan(answer: Scanned, stats: &mut [i64], changes: &mut u64) -> u32
     requires { ⌜ length (now stats) ≡ 6 ⌝ }
     requires { ⌜ Holds (λ done. Storable (done .stats)) (scanned answer) ⌝ }
@@ -148,6 +150,7 @@ fn lay_scan(answer: Scanned, stats: &mut [i64], changes: &mut u64) -> u32
     }
 }
 
+// the same of a settling, with its scans
 fn lay_converged(answer: Converged, stats: &mut [i64], scans: &mut u64) -> u32
     requires { ⌜ length (now stats) ≡ 6 ⌝ }
     requires { ⌜ Holds (λ done. Storable (done .stats)) (converged answer) ⌝ }
@@ -328,7 +331,8 @@ pub extern "C" fn pm_try_swap(
 ) -> u32
     ensures { λ r. ⌜ (let o = swapOver
         (record { width = width; height = height; radius = radius; reach = reach; start = start })
-        (now (psf .entry)) (now (gray .entry)) (now (dots .entry)) (now (table .entry)) (now (stats .entry)) row col row2 col2 in
+        (now (psf .entry)) (now (gray .entry)) (now (dots .entry)) (now (table .entry)) (now (stats .entry))
+        row col row2 col2 in
         (r ≡ status (o .reply))
         × (now (dots .exit) ≡ o .buffer .dots)
         × (now (table .exit) ≡ o .buffer .table)

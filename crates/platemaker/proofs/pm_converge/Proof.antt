@@ -1,9 +1,7 @@
 -- `platemaker::pm_converge` meets its contract: the slice is refused, or the call is made and its answer laid out.
-use mathlib.Core.Path.{sym, _∙_, subst}
 use borrow.Author.Needs.{needs}
-use Rattle.platemaker.specs.Storable.{Holds}
 use Rattle.platemaker.proofs.Ledgers.{converge-storable}
-use Rattle.platemaker.proofs.Laws.{slice-refused, slice-taken, slice-six}
+use Rattle.platemaker.proofs.Laws.{slice-six, to-lay, slice-refused, slice-taken}
 use Rattle.platemaker.proofs.pm_converge.Statement.{statement}
 use Rattle.platemaker.proofs.pm_converge.Tie as tie
 
@@ -28,7 +26,8 @@ lay-converged-requires : tie.Need-lay-converged-requires
 lay-converged-requires c κs =
     let k = c .before .before .before .before .before in
     let e = k .before .before .before .before .before in
-    (slice-six _ _ (e .before .judge-stats .ensures) (e .if1 .left), subst (Holds _) (sym (k .converge .ensures .0)) (converge-storable _ _ _ _ _ _))
+    to-lay _ _ _ (e .before .judge-stats .ensures) (e .if1 .left) (k .converge .ensures .0)
+    (converge-storable _ _ _ _ _ _)
 
 same-length-2 : tie.Need-same-length-2
 same-length-2 c = search needs

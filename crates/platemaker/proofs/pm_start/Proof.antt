@@ -1,11 +1,9 @@
 -- `platemaker::pm_start` meets its contract: the slice is refused, or the call is made and its answer laid out.
-use mathlib.Core.Path.{sym, _∙_, subst, refl}
+use mathlib.Core.Path.{refl}
 use native.Mathlib.Omega.{arith}
 use borrow.Author.Needs.{needs}
-use Rattle.model.specs.Basic.{AtMost}
-use Rattle.platemaker.specs.Storable.{Holds}
 use Rattle.platemaker.proofs.Ledgers.{start-storable}
-use Rattle.platemaker.proofs.Laws.{slice-refused, slice-taken, slice-six}
+use Rattle.platemaker.proofs.Laws.{to-lay, slice-refused, slice-taken}
 use Rattle.platemaker.proofs.pm_start.Statement.{statement}
 use Rattle.platemaker.proofs.pm_start.Tie as tie
 
@@ -17,7 +15,8 @@ same-length c = search needs
 
 returns : tie.Need-returns
 returns c =
-    let (r, d, t, s, _) = slice-refused _ _ _ _ _ _ _ _ (λ _. tt {0}) (tt {0}) (c .before .judge-stats .ensures) (c .if1 .taken) in
+    let (r, d, t, s, _)
+    = slice-refused _ _ _ _ _ _ _ _ (λ _. tt {0}) (tt {0}) (c .before .judge-stats .ensures) (c .if1 .taken) in
     (r, d, t, s)
 
 start-requires : tie.Need-start-requires
@@ -28,8 +27,9 @@ lay-start-requires c κs =
     let k = c .before .before .before .before in
     let e = k .before .before .before in
     let j = e .before in
-    let bytes : AtMost 255 (j .before .before .before .before .before .args .gray .now) = record { each = λ i. omega (arith, j .before .before .before .shared-slice-known2 .given i) } in
-    (slice-six _ _ (j .judge-stats .ensures) (e .if1 .left), subst (Holds _) (sym (k .start .ensures .0)) (start-storable _ _ _ _ _ bytes))
+    to-lay _ _ _ (j .judge-stats .ensures) (e .if1 .left) (k .start .ensures .0)
+    (start-storable _ _ _ _ _
+    (record { each = λ i. omega (arith, j .before .before .before .shared-slice-known2 .given i) }))
 
 same-length-2 : tie.Need-same-length-2
 same-length-2 c = search needs
@@ -46,7 +46,8 @@ returns-2 c =
     let k = p .before .before .before .before .before in
     let e = k .before .before .before in
     let (a, b) = p .lay-start .ensures in
-    let (r, d, t, s, _) = slice-taken _ _ _ _ _ _ _ _ (λ _. tt {0}) (tt {0}) (e .before .judge-stats .ensures) (e .if1 .left)
+    let (r, d, t, s, _)
+    = slice-taken _ _ _ _ _ _ _ _ (λ _. tt {0}) (tt {0}) (e .before .judge-stats .ensures) (e .if1 .left)
     (k .start .ensures) (a, b, refl) in
     (r, d, t, s)
 

@@ -1,9 +1,7 @@
 -- `platemaker::pm_toggle_scan` meets its contract: the slice is refused, or the call is made and its answer laid out.
-use mathlib.Core.Path.{sym, _∙_, subst}
 use borrow.Author.Needs.{needs}
-use Rattle.platemaker.specs.Storable.{Holds}
 use Rattle.platemaker.proofs.Ledgers.{toggle-scan-storable}
-use Rattle.platemaker.proofs.Laws.{slice-refused, slice-taken, slice-six}
+use Rattle.platemaker.proofs.Laws.{slice-six, to-lay, slice-refused, slice-taken}
 use Rattle.platemaker.proofs.pm_toggle_scan.Statement.{statement}
 use Rattle.platemaker.proofs.pm_toggle_scan.Tie as tie
 
@@ -28,7 +26,8 @@ lay-scan-requires : tie.Need-lay-scan-requires
 lay-scan-requires c κs =
     let k = c .before .before .before .before .before in
     let e = k .before .before .before .before .before in
-    (slice-six _ _ (e .before .judge-stats .ensures) (e .if1 .left), subst (Holds _) (sym (k .toggle-scan .ensures .0)) (toggle-scan-storable _ _ _ _ _ _))
+    to-lay _ _ _ (e .before .judge-stats .ensures) (e .if1 .left) (k .toggle-scan .ensures .0)
+    (toggle-scan-storable _ _ _ _ _ _)
 
 same-length-2 : tie.Need-same-length-2
 same-length-2 c = search needs

@@ -1,9 +1,7 @@
 -- `platemaker::pm_try_swap` meets its contract: the slice is refused, or the call is made and its answer laid out.
-use mathlib.Core.Path.{sym, _∙_, subst}
 use borrow.Author.Needs.{needs}
-use Rattle.platemaker.specs.Storable.{Holds}
 use Rattle.platemaker.proofs.Ledgers.{swap-storable}
-use Rattle.platemaker.proofs.Laws.{slice-refused, slice-taken, slice-six}
+use Rattle.platemaker.proofs.Laws.{slice-six, to-lay, slice-refused, slice-taken}
 use Rattle.platemaker.proofs.pm_try_swap.Statement.{statement}
 use Rattle.platemaker.proofs.pm_try_swap.Tie as tie
 
@@ -28,7 +26,8 @@ lay-attempt-requires : tie.Need-lay-attempt-requires
 lay-attempt-requires c κs =
     let k = c .before .before .before .before .before in
     let e = k .before .before .before .before .before in
-    (slice-six _ _ (e .before .judge-stats .ensures) (e .if1 .left), subst (Holds _) (sym (k .try-swap .ensures .0)) (swap-storable _ _ _ _ _ _ _ _ _ _))
+    to-lay _ _ _ (e .before .judge-stats .ensures) (e .if1 .left) (k .try-swap .ensures .0)
+    (swap-storable _ _ _ _ _ _ _ _ _ _)
 
 same-length-2 : tie.Need-same-length-2
 same-length-2 c = search needs
