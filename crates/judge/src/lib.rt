@@ -83,7 +83,7 @@ fn judge_options(reach: usize, kind: usize) -> u32
 }
 
 // 1 to 4
-fn judge_all_measures(m: Measures) -> u32
+pub fn judge_all_measures(m: Measures) -> u32
     ensures { λ r. ⌜ r ≡ firstOf
         (badSize (m .width) (m .height) ∷ badRadius (m .radius) ∷ badReach (m .reach) ∷ badKind (m .start) ∷ []) ⌝ }
 {

@@ -29,5 +29,6 @@ pub mod Unseen
 pub mod Sheet
 pub mod Refused
 pub mod Program
+pub mod Interface
 pub mod Examples
 pub mod Promises

@@ -41,6 +41,7 @@ use Rattle.model.specs.Format.{headOf, fits as roomFor, Read, readSheet}
 use Rattle.model.specs.SheetCalls.{result as written, withGiven, writtenSheet, readCall, writeCall}
 use Rattle.model.specs.Program.{refusedText, statsText, convergedText, startedText, processedText}
 use Rattle.model.specs.Program.{handedDots, output}
+use Rattle.model.specs.Interface.{numbers, statsIn, startOver, Slices, slicesOf, heldIn, callOver, runOver}
 use Rattle.model.specs.Examples.{Examples}
 use Rattle.model.proofs.Basic.{All}
 use Rattle.model.proofs.Psf.{autocorrelation-even, autocorrelation-supported}
@@ -63,6 +64,7 @@ use Rattle.model.proofs.Converge.{converge-scans, converge-counts, conv
 use Rattle.model.proofs.Lists.{heldOf, call-same, call-later, Alike, run-same, run-expected}
 use Rattle.model.proofs.Sheet.{read-exactly, read-back, same-text, written-whole, written-back}
 use Rattle.model.proofs.Refused.{read-draws, twelve-lacks, read-begins, ten-stops}
+use Rattle.model.proofs.Interface.{start-over, call-over, stored-read, run-over}
 use Rattle.model.proofs.Examples.{examples}
 
 -- ---- the autocorrelation, of any psf
@@ -629,6 +631,26 @@ module _ (input : List ℕ) where
       go : (b : Bool) → ltb 32768 (length input) ≡ b → Answer
       go true t = inr (13, 0, rw t)
       go false t = short t (eqb (r .refusal) 0) refl
+
+-- ---- the C interface
+-- a ledger that was stored is read back as it was
+pub stored-stats-read-back : (s : Stats) → statsIn (numbers s) ≡ s
+stored-stats-read-back = stored-read
+
+module _ (m : Measures) (psf gray : List ℕ) where
+  -- over a slice of six numbers a start and each later call is that of document 01, refused alike
+  pub start-takes-six-numbers : (dots : List ℕ) (table stats : List ℤ) → length stats ≡ 6
+      → startOver m psf gray dots table stats ≡ startCall m psf gray dots table
+  start-takes-six-numbers = start-over m psf gray
+
+  pub calls-take-six-numbers : (h : Slices) (c : Call) → length (h .stats) ≡ 6
+      → callOver m psf gray h c ≡ call m psf gray (heldIn h) c
+  calls-take-six-numbers = call-over m psf gray
+
+  -- so a list of its calls answers and leaves what the list of calls does, and demand 3 holds of it
+  pub interface-lists-are-lists : (h : Held) (l : List Call)
+      → (let r = run m psf gray h l in runOver m psf gray (slicesOf h) l ≡ (r .0, slicesOf (r .1)))
+  interface-lists-are-lists = run-over m psf gray
 
 -- ---- the starred examples of document 01, and its worked example as the program prints it
 pub examples-hold : Examples

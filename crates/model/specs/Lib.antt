@@ -17,4 +17,5 @@ pub mod Sheet
 pub mod Format
 pub mod SheetCalls
 pub mod Program
+pub mod Interface
 pub mod Examples

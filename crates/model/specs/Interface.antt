@@ -1,0 +1,178 @@
+-- The C interface (include/platemaker.h), whose functions answer in numbers. Each makes one call of document 01. Here
+-- is how an answer is laid out behind the pointers, how a ledger (`Stats`) and measures stand in a slice of numbers, and
+-- that such a slice is judged like every other: 5 where its length is wrong.
+use mathlib.Core.Bool.{not}
+use mathlib.Core.List.{List, [], _∷_, _++_}
+use Prim.Native.Nat.{ℕ, _-_, _^_}
+use lib.Dec.{eqb}
+use lib.IntN.{ℤ, pos, negsuc}
+use lib.ListN.{length, getD}
+use Rattle.model.specs.declared.Measures.{Measures}
+use Rattle.model.specs.declared.Stats.{Stats}
+use Rattle.model.specs.declared.ScanResult.{ScanResult}
+use Rattle.model.specs.declared.ConvergeResult.{ConvergeResult}
+use Rattle.model.specs.Basic.{pick}
+use Rattle.model.specs.Refusal.{Refusal, _when_, firstOf, badSize, badRadius, badReach, badKind}
+use Rattle.model.specs.Reference.{Tried, accepted, declined}
+use Rattle.model.specs.Calls.{Reply, result, refused, Outcome, unless, Buffers}
+use Rattle.model.specs.Calls.{startCall, toggleCall, swapCall, toggleScanCall, swapScanCall, convergeCall}
+use Rattle.model.specs.Lists.{Call, toggleAt, swapAt, toggleScan, swapScan, convergence}
+use Rattle.model.specs.Lists.{Result, tried, swept, rested, Held, outcome}
+use Rattle.model.specs.SheetCalls as Sheet
+
+-- ---- an answer in numbers
+-- the status: 0, or document 01's refusal number
+abbrev pub status : {A : Type 0} → Reply A → ℕ
+status (result a) = 0
+status (refused n) = n
+
+-- what stands behind a pointer at exit: what the result puts there, or what stood there
+abbrev pub after : {A B : Type 0} → (A → B) → B → Reply A → B
+after f b (result a) = f a
+after f b (refused n) = b
+
+-- ---- a ledger in a slice
+abbrev pub numbers : Stats → List ℤ
+numbers s =
+    s .«start_error»
+    ∷ s .error
+    ∷ pos (s .«start_dots»)
+    ∷ pos (s .on)
+    ∷ pos (s .off)
+    ∷ pos (s .swaps)
+    ∷ []
+
+-- a count: a number below 0 is none, and stands for the greatest of 64 bits, which 21 refuses
+abbrev pub countOf : ℤ → ℕ
+countOf (pos n) = n
+countOf (negsuc n) = 2 ^ 64 - 1
+
+-- the ledger in six numbers
+unfoldable pub statsIn : List ℤ → Stats
+statsIn l =
+    record {
+      «start_error» = getD l 0 (pos 0);
+      error = getD l 1 (pos 0);
+      «start_dots» = countOf (getD l 2 (pos 0));
+      on = countOf (getD l 3 (pos 0));
+      off = countOf (getD l 4 (pos 0));
+      swaps = countOf (getD l 5 (pos 0));
+    }
+
+-- 1 to 4
+abbrev pub badMeasures : Measures → List Refusal
+badMeasures m = badSize (m .width) (m .height) ∷ badRadius (m .radius) ∷ badReach (m .reach) ∷ badKind (m .start) ∷ []
+
+-- 5 where there are not six, in its place: after 1 to 4
+abbrev pub badStatsLength : List ℤ → List Refusal
+badStatsLength stats = 5 when not (eqb (length stats) 6) ∷ []
+
+unfoldable pub sliceRefusal : Measures → List ℤ → ℕ
+sliceRefusal m stats = firstOf (badMeasures m ++ badStatsLength stats)
+
+-- ---- starts and later calls, with the ledger in a slice
+module _ (m : Measures) (psf gray dots : List ℕ) (table stats : List ℤ) where
+  -- unless the slice is refused, that call
+  unfoldable pub overStats : {A : Type 0} → Outcome A Buffers → Outcome A Buffers
+  overStats o = unless (sliceRefusal m stats) (record { dots = dots; table = table }) o
+
+  abbrev pub startOver : Outcome Stats Buffers
+  startOver = overStats (startCall m psf gray dots table)
+
+  abbrev pub toggleOver : (row col : ℕ) → Outcome Tried Buffers
+  toggleOver row col = overStats (toggleCall m psf gray dots table (statsIn stats) row col)
+
+  abbrev pub swapOver : (row col row′ col′ : ℕ) → Outcome Tried Buffers
+  swapOver row col row′ col′ = overStats (swapCall m psf gray dots table (statsIn stats) row col row′ col′)
+
+  abbrev pub toggleScanOver : Outcome ScanResult Buffers
+  toggleScanOver = overStats (toggleScanCall m psf gray dots table (statsIn stats))
+
+  abbrev pub swapScanOver : Outcome ScanResult Buffers
+  swapScanOver = overStats (swapScanCall m psf gray dots table (statsIn stats))
+
+  abbrev pub convergeOver : Outcome ConvergeResult Buffers
+  convergeOver = overStats (convergeCall m psf gray dots table (statsIn stats))
+
+-- the change of an attempt: accepted exactly when it is below 0
+abbrev pub changeOf : Tried → ℤ
+changeOf (accepted s d) = d
+changeOf (declined d) = d
+
+-- the ledger that an attempt leaves in its slice: the new one, or, declined, the one that stood there
+abbrev pub triedNumbers : List ℤ → Tried → List ℤ
+triedNumbers l (accepted s d) = numbers s
+triedNumbers l (declined d) = l
+
+abbrev pub scanNumbers : ScanResult → List ℤ
+scanNumbers r = numbers (r .stats)
+
+abbrev pub convergeNumbers : ConvergeResult → List ℤ
+convergeNumbers r = numbers (r .stats)
+
+-- ---- lists of its later calls: each handed what the last one left behind the pointers
+pub record Slices : Type 0 where
+  pub dots : List ℕ
+  pub table : List ℤ
+  pub stats : List ℤ
+
+-- what later calls are handed, in slices, and what stands in slices for them
+abbrev pub slicesOf : Held → Slices
+slicesOf h = record { dots = h .dots; table = h .table; stats = numbers (h .stats) }
+
+abbrev pub heldIn : Slices → Held
+heldIn h = record { dots = h .dots; table = h .table; stats = statsIn (h .stats) }
+
+-- the ledger's slice after a call
+abbrev pub statsAfter : List ℤ → Reply Result → List ℤ
+statsAfter l (result (tried t)) = triedNumbers l t
+statsAfter l (result (swept r)) = scanNumbers r
+statsAfter l (result (rested r)) = convergeNumbers r
+statsAfter l (refused n) = l
+
+abbrev pub leave : Slices → Outcome Result Buffers → Slices
+leave h o =
+    record { dots = o .buffer .dots; table = o .buffer .table; stats = statsAfter (h .stats) (o .reply) }
+
+module _ (m : Measures) (psf gray : List ℕ) where
+  abbrev pub callOver : Slices → Call → Outcome Result Buffers
+  callOver h (toggleAt row col) = outcome tried (toggleOver m psf gray (h .dots) (h .table) (h .stats) row col)
+  callOver h (swapAt row col row′ col′) =
+      outcome tried (swapOver m psf gray (h .dots) (h .table) (h .stats) row col row′ col′)
+  callOver h toggleScan = outcome swept (toggleScanOver m psf gray (h .dots) (h .table) (h .stats))
+  callOver h swapScan = outcome swept (swapScanOver m psf gray (h .dots) (h .table) (h .stats))
+  callOver h convergence = outcome rested (convergeOver m psf gray (h .dots) (h .table) (h .stats))
+
+  -- every answer in order, and what is left
+  unfoldable pub runOver : Slices → List Call → List (Reply Result) × Slices
+  runOver h [] = ([], h)
+  runOver h (c ∷ l) =
+      let o = callOver h c in
+      let r = runOver (leave h o) l in
+      (o .reply ∷ r .0, r .1)
+
+-- ---- sheets, whose refusals have a byte offset
+abbrev pub sheetStatus : {A : Type 0} → Sheet.Reply A → ℕ
+sheetStatus (Sheet.result a) = 0
+sheetStatus (Sheet.refused n o) = n
+
+-- what stands behind the pointer to the offset at exit: it is written on a refusal only
+abbrev pub offsetAfter : {A : Type 0} → ℕ → Sheet.Reply A → ℕ
+offsetAfter at (Sheet.result a) = at
+offsetAfter at (Sheet.refused n o) = o
+
+-- and behind the others
+abbrev pub sheetAfter : {A B : Type 0} → (A → B) → B → Sheet.Reply A → B
+sheetAfter f b (Sheet.result a) = f a
+sheetAfter f b (Sheet.refused n o) = b
+
+-- measures in a slice of five numbers
+abbrev pub measureNumbers : Measures → List ℕ
+measureNumbers m = m .width ∷ m .height ∷ m .radius ∷ m .reach ∷ m .start ∷ []
+
+-- reading into a slice of measures: 5 at 0 where there are not five, before all else
+unfoldable pub readOver : (bytes psf gray dots measures : List ℕ) → Sheet.ReadOutcome
+readOver bytes psf gray dots measures =
+    pick (eqb (length measures) 5)
+    (Sheet.readCall bytes psf gray dots)
+    (record { reply = Sheet.refused 5 0; psf = psf; gray = gray; dots = dots })

@@ -1,0 +1,66 @@
+-- `platemaker::pm_start` meets its contract: the slice is refused, or the call is made and its answer laid out.
+use mathlib.Core.Path.{refl}
+use native.Mathlib.Omega.{arith}
+use borrow.Author.Needs.{needs}
+use Rattle.platemaker.proofs.Ledgers.{start-storable}
+use Rattle.platemaker.proofs.Laws.{to-lay, slice-refused, slice-taken}
+use Rattle.platemaker.proofs.pm_start.Statement.{statement}
+use Rattle.platemaker.proofs.pm_start.Tie as tie
+
+judge-stats-requires : tie.Need-judge-stats-requires
+judge-stats-requires c κs = search needs
+
+same-length : tie.Need-same-length
+same-length c = search needs
+
+returns : tie.Need-returns
+returns c =
+    let (r, d, t, s, _)
+    = slice-refused _ _ _ _ _ _ _ _ (λ _. tt {0}) (tt {0}) (c .before .judge-stats .ensures) (c .if1 .taken) in
+    (r, d, t, s)
+
+start-requires : tie.Need-start-requires
+start-requires c κs = search needs
+
+lay-start-requires : tie.Need-lay-start-requires
+lay-start-requires c κs =
+    let k = c .before .before .before .before in
+    let e = k .before .before .before in
+    let j = e .before in
+    to-lay _ _ _ (j .judge-stats .ensures) (e .if1 .left) (k .start .ensures .0)
+    (start-storable _ _ _ _ _
+    (record { each = λ i. omega (arith, j .before .before .before .shared-slice-known2 .given i) }))
+
+same-length-2 : tie.Need-same-length-2
+same-length-2 c = search needs
+
+same-length-3 : tie.Need-same-length-3
+same-length-3 c = search needs
+
+same-length-4 : tie.Need-same-length-4
+same-length-4 c = search needs
+
+returns-2 : tie.Need-returns-2
+returns-2 c =
+    let p = c .before in
+    let k = p .before .before .before .before .before in
+    let e = k .before .before .before in
+    let (a, b) = p .lay-start .ensures in
+    let (r, d, t, s, _)
+    = slice-taken _ _ _ _ _ _ _ _ (λ _. tt {0}) (tt {0}) (e .before .judge-stats .ensures) (e .if1 .left)
+    (k .start .ensures) (a, b, refl) in
+    (r, d, t, s)
+
+pub pm-start-spec : {M : Type 1} → statement M
+pm-start-spec =
+    tie.close
+    (tie.spec
+    judge-stats-requires
+    same-length
+    returns
+    start-requires
+    lay-start-requires
+    same-length-2
+    same-length-3
+    same-length-4
+    returns-2)

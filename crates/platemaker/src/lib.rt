@@ -1,0 +1,566 @@
+// The C interface (include/platemaker.h): a function on numbers and slices for each call of document 01. Each calls the
+// proved function and lays its answer out in numbers: the status, which is 0 or the refusal number, and behind the
+// pointers the rest. A refusal changes nothing but, of a sheet, the byte offset.
+ghost use mathlib.Core.Path.{_≡_};
+ghost use lib.ListN.{length};
+ghost use Rattle.model.specs.Calls.{started, attempted, scanned, converged};
+ghost use Rattle.model.specs.Calls.{autocorrelationCall, filteredErrorCall, squaredErrorCall};
+ghost use Rattle.model.specs.Interface.{status, after, numbers, countOf, statsIn, sliceRefusal};
+ghost use Rattle.model.specs.Interface.{startOver, toggleOver, swapOver, toggleScanOver, swapScanOver, convergeOver};
+ghost use Rattle.model.specs.Interface.{changeOf, triedNumbers, scanNumbers, convergeNumbers};
+ghost use Rattle.model.specs.Interface.{sheetStatus, offsetAfter, sheetAfter, measureNumbers, readOver};
+ghost use Rattle.model.specs.SheetCalls.{readingOf, writeCall};
+ghost use Rattle.platemaker.specs.Storable.{Storable, Holds, TriedStorable};
+use judge::judge_all_measures;
+use model::Attempt;
+use model::Converged;
+use model::Filled;
+use model::Measures;
+use model::Reading;
+use model::Scanned;
+use model::SquaredError;
+use model::Started;
+use model::Stats;
+use model::Writing;
+
+// a count of a ledger: the greatest number of 64 bits for what is below 0
+fn count_of(x: i64) -> u64
+    ensures { λ r. ⌜ r ≡ countOf x ⌝ }
+{
+    if x < 0 {
+        return 18446744073709551615;
+    }
+    x as u64
+}
+
+// the ledger in six numbers
+fn stats_of(numbers: &[i64]) -> Stats
+    requires { ⌜ length (now numbers) ≡ 6 ⌝ }
+    ensures { λ r. ⌜ r ≡ statsIn (now (numbers .entry)) ⌝ }
+{
+    Stats {
+        start_error: numbers[0],
+        error: numbers[1],
+        start_dots: count_of(numbers[2]),
+        on: count_of(numbers[3]),
+        off: count_of(numbers[4]),
+        swaps: count_of(numbers[5]),
+    }
+}
+
+// a ledger into six numbers
+fn store_stats(out: &mut [i64], stats: Stats)
+    requires { ⌜ length (now out) ≡ 6 ⌝ }
+    requires { ⌜ Storable stats ⌝ }
+    ensures { λ _. ⌜ now (out .exit) ≡ numbers stats ⌝ }
+{
+    let start_error = stats.start_error;
+    let error = stats.error;
+    let start_dots = stats.start_dots as i64;
+    let on = stats.on as i64;
+    let off = stats.off as i64;
+    let swaps = stats.swaps as i64;
+    out[0] = start_error;
+    out[1] = error;
+    out[2] = start_dots;
+    out[3] = on;
+    out[4] = off;
+    out[5] = swaps;
+}
+
+// measures into five numbers
+fn store_measures(out: &mut [usize], measures: Measures)
+    requires { ⌜ length (now out) ≡ 5 ⌝ }
+    ensures { λ _. ⌜ now (out .exit) ≡ measureNumbers measures ⌝ }
+{
+    out[0] = measures.width;
+    out[1] = measures.height;
+    out[2] = measures.radius;
+    out[3] = measures.reach;
+    out[4] = measures.start;
+}
+
+// 1 to 4, and 5 for a slice that is to hold a ledger
+fn judge_stats(measures: Measures, stats: &[i64]) -> u32
+    ensures { λ r. ⌜ r ≡ sliceRefusal measures (now (stats .entry)) ⌝ }
+{
+    let number = judge_all_measures(measures);
+    if number != 0 {
+        return number;
+    }
+    if stats.len() != 6 {
+        return 5;
+    }
+    0
+}
+
+// lays the answer of a start out: its status, and the ledger into its slice
+fn lay_start(answer: Started, stats: &mut [i64]) -> u32
+    requires { ⌜ length (now stats) ≡ 6 ⌝ }
+    requires { ⌜ Holds Storable (started answer) ⌝ }
+    ensures { λ r. ⌜ (r ≡ status (started answer))
+        × (now (stats .exit) ≡ after numbers (now (stats .entry)) (started answer)) ⌝ }
+{
+    match answer {
+        Started::Fresh(new) => {
+            store_stats(stats, new);
+            0
+        }
+        Started::Refused(number) => number,
+    }
+}
+
+// the same of an attempt, with its change
+fn lay_attempt(answer: Attempt, stats: &mut [i64], change: &mut i64) -> u32
+    requires { ⌜ length (now stats) ≡ 6 ⌝ }
+    requires { ⌜ Holds TriedStorable (attempted answer) ⌝ }
+    ensures { λ r. ⌜ (r ≡ status (attempted answer))
+        × (now (stats .exit) ≡ after (triedNumbers (now (stats .entry))) (now (stats .entry)) (attempted answer))
+        × (now (change .exit) ≡ after changeOf (now (change .entry)) (attempted answer)) ⌝ }
+{
+    match answer {
+        Attempt::Accepted(new, delta) => {
+            store_stats(stats, new);
+            *change = delta;
+            0
+        }
+        Attempt::Declined(rise) => {
+            *change = rise;
+            0
+        }
+        Attempt::Refused(number) => number,
+    }
+}
+
+// the same of a scan, with its accepted changes
+fn lay_scan(answer: Scanned, stats: &mut [i64], changes: &mut u64) -> u32
+    requires { ⌜ length (now stats) ≡ 6 ⌝ }
+    requires { ⌜ Holds (λ done. Storable (done .stats)) (scanned answer) ⌝ }
+    ensures { λ r. ⌜ (r ≡ status (scanned answer))
+        × (now (stats .exit) ≡ after scanNumbers (now (stats .entry)) (scanned answer))
+        × (now (changes .exit) ≡ after (λ done. done .changes) (now (changes .entry)) (scanned answer)) ⌝ }
+{
+    match answer {
+        Scanned::Done(done) => {
+            store_stats(stats, done.stats);
+            *changes = done.changes;
+            0
+        }
+        Scanned::Refused(number) => number,
+    }
+}
+
+// the same of a settling, with its scans
+fn lay_converged(answer: Converged, stats: &mut [i64], scans: &mut u64) -> u32
+    requires { ⌜ length (now stats) ≡ 6 ⌝ }
+    requires { ⌜ Holds (λ done. Storable (done .stats)) (converged answer) ⌝ }
+    ensures { λ r. ⌜ (r ≡ status (converged answer))
+        × (now (stats .exit) ≡ after convergeNumbers (now (stats .entry)) (converged answer))
+        × (now (scans .exit) ≡ after (λ done. done .scans) (now (scans .entry)) (converged answer)) ⌝ }
+{
+    match answer {
+        Converged::Done(done) => {
+            store_stats(stats, done.stats);
+            *scans = done.scans;
+            0
+        }
+        Converged::Refused(number) => number,
+    }
+}
+
+// The autocorrelation.
+#[no_mangle]
+pub extern "C" fn pm_autocorrelation(radius: usize, psf: &[u8], out: &mut [i32]) -> u32
+    ensures { λ r. ⌜ (let o = autocorrelationCall radius (now (psf .entry)) (now (out .entry)) in
+        (r ≡ status (o .reply))
+        × (now (out .exit) ≡ o .buffer)) ⌝ }
+{
+    let answer = filter::autocorrelation(radius, psf, out);
+    match answer {
+        Filled::Done => 0,
+        Filled::Refused(number) => number,
+    }
+}
+
+// The filtered error (document 01: the table).
+#[no_mangle]
+pub extern "C" fn pm_filtered_error(
+    width: usize,
+    height: usize,
+    radius: usize,
+    psf: &[u8],
+    gray: &[u8],
+    dots: &[u8],
+    table: &mut [i32],
+) -> u32
+    ensures { λ r. ⌜ (let o = filteredErrorCall width height radius
+        (now (psf .entry)) (now (gray .entry)) (now (dots .entry)) (now (table .entry)) in
+        (r ≡ status (o .reply))
+        × (now (table .exit) ≡ o .buffer)) ⌝ }
+{
+    let answer = filter::filtered_error(width, height, radius, psf, gray, dots, table);
+    match answer {
+        Filled::Done => 0,
+        Filled::Refused(number) => number,
+    }
+}
+
+// The squared error.
+#[no_mangle]
+pub extern "C" fn pm_squared_error(
+    width: usize,
+    height: usize,
+    radius: usize,
+    psf: &[u8],
+    gray: &[u8],
+    dots: &[u8],
+    error: &mut i64,
+) -> u32
+    ensures { λ r. ⌜ (let o = squaredErrorCall width height radius
+        (now (psf .entry)) (now (gray .entry)) (now (dots .entry)) in
+        (r ≡ status (o .reply))
+        × (now (error .exit) ≡ after (λ e. e) (now (error .entry)) (o .reply))) ⌝ }
+{
+    let answer = filter::squared_error(width, height, radius, psf, gray, dots);
+    match answer {
+        SquaredError::Value(value) => {
+            *error = value;
+            0
+        }
+        SquaredError::Refused(number) => number,
+    }
+}
+
+// A start.
+#[no_mangle]
+pub extern "C" fn pm_start(
+    width: usize,
+    height: usize,
+    radius: usize,
+    reach: usize,
+    start: usize,
+    psf: &[u8],
+    gray: &[u8],
+    dots: &mut [u8],
+    table: &mut [i32],
+    stats: &mut [i64],
+) -> u32
+    ensures { λ r. ⌜ (let o = startOver
+        (record { width = width; height = height; radius = radius; reach = reach; start = start })
+        (now (psf .entry)) (now (gray .entry)) (now (dots .entry)) (now (table .entry)) (now (stats .entry)) in
+        (r ≡ status (o .reply))
+        × (now (dots .exit) ≡ o .buffer .dots)
+        × (now (table .exit) ≡ o .buffer .table)
+        × (now (stats .exit) ≡ after numbers (now (stats .entry)) (o .reply))) ⌝ }
+{
+    let measures = Measures {
+        width: width,
+        height: height,
+        radius: radius,
+        reach: reach,
+        start: start,
+    };
+    let number = judge_stats(measures, stats);
+    if number != 0 {
+        return number;
+    }
+    let answer = starts::start(measures, psf, gray, dots, table);
+    lay_start(answer, stats)
+}
+
+// An attempt to toggle.
+#[no_mangle]
+pub extern "C" fn pm_try_toggle(
+    width: usize,
+    height: usize,
+    radius: usize,
+    reach: usize,
+    start: usize,
+    psf: &[u8],
+    gray: &[u8],
+    dots: &mut [u8],
+    table: &mut [i32],
+    stats: &mut [i64],
+    row: usize,
+    col: usize,
+    change: &mut i64,
+) -> u32
+    ensures { λ r. ⌜ (let o = toggleOver
+        (record { width = width; height = height; radius = radius; reach = reach; start = start })
+        (now (psf .entry)) (now (gray .entry)) (now (dots .entry)) (now (table .entry)) (now (stats .entry)) row col in
+        (r ≡ status (o .reply))
+        × (now (dots .exit) ≡ o .buffer .dots)
+        × (now (table .exit) ≡ o .buffer .table)
+        × (now (stats .exit) ≡ after (triedNumbers (now (stats .entry))) (now (stats .entry)) (o .reply))
+        × (now (change .exit) ≡ after changeOf (now (change .entry)) (o .reply))) ⌝ }
+{
+    let measures = Measures {
+        width: width,
+        height: height,
+        radius: radius,
+        reach: reach,
+        start: start,
+    };
+    let number = judge_stats(measures, stats);
+    if number != 0 {
+        return number;
+    }
+    let ledger = stats_of(stats);
+    let answer = search::try_toggle(measures, psf, gray, dots, table, ledger, row, col);
+    lay_attempt(answer, stats, change)
+}
+
+// An attempt to swap.
+#[no_mangle]
+pub extern "C" fn pm_try_swap(
+    width: usize,
+    height: usize,
+    radius: usize,
+    reach: usize,
+    start: usize,
+    psf: &[u8],
+    gray: &[u8],
+    dots: &mut [u8],
+    table: &mut [i32],
+    stats: &mut [i64],
+    row: usize,
+    col: usize,
+    row2: usize,
+    col2: usize,
+    change: &mut i64,
+) -> u32
+    ensures { λ r. ⌜ (let o = swapOver
+        (record { width = width; height = height; radius = radius; reach = reach; start = start })
+        (now (psf .entry)) (now (gray .entry)) (now (dots .entry)) (now (table .entry)) (now (stats .entry))
+        row col row2 col2 in
+        (r ≡ status (o .reply))
+        × (now (dots .exit) ≡ o .buffer .dots)
+        × (now (table .exit) ≡ o .buffer .table)
+        × (now (stats .exit) ≡ after (triedNumbers (now (stats .entry))) (now (stats .entry)) (o .reply))
+        × (now (change .exit) ≡ after changeOf (now (change .entry)) (o .reply))) ⌝ }
+{
+    let measures = Measures {
+        width: width,
+        height: height,
+        radius: radius,
+        reach: reach,
+        start: start,
+    };
+    let number = judge_stats(measures, stats);
+    if number != 0 {
+        return number;
+    }
+    let ledger = stats_of(stats);
+    let answer = search::try_swap(
+        measures,
+        psf,
+        gray,
+        dots,
+        table,
+        ledger,
+        row,
+        col,
+        row2,
+        col2,
+    );
+    lay_attempt(answer, stats, change)
+}
+
+// A toggle scan.
+#[no_mangle]
+pub extern "C" fn pm_toggle_scan(
+    width: usize,
+    height: usize,
+    radius: usize,
+    reach: usize,
+    start: usize,
+    psf: &[u8],
+    gray: &[u8],
+    dots: &mut [u8],
+    table: &mut [i32],
+    stats: &mut [i64],
+    changes: &mut u64,
+) -> u32
+    ensures { λ r. ⌜ (let o = toggleScanOver
+        (record { width = width; height = height; radius = radius; reach = reach; start = start })
+        (now (psf .entry)) (now (gray .entry)) (now (dots .entry)) (now (table .entry)) (now (stats .entry)) in
+        (r ≡ status (o .reply))
+        × (now (dots .exit) ≡ o .buffer .dots)
+        × (now (table .exit) ≡ o .buffer .table)
+        × (now (stats .exit) ≡ after scanNumbers (now (stats .entry)) (o .reply))
+        × (now (changes .exit) ≡ after (λ done. done .changes) (now (changes .entry)) (o .reply))) ⌝ }
+{
+    let measures = Measures {
+        width: width,
+        height: height,
+        radius: radius,
+        reach: reach,
+        start: start,
+    };
+    let number = judge_stats(measures, stats);
+    if number != 0 {
+        return number;
+    }
+    let ledger = stats_of(stats);
+    let answer = search::toggle_scan(measures, psf, gray, dots, table, ledger);
+    lay_scan(answer, stats, changes)
+}
+
+// A swap scan.
+#[no_mangle]
+pub extern "C" fn pm_swap_scan(
+    width: usize,
+    height: usize,
+    radius: usize,
+    reach: usize,
+    start: usize,
+    psf: &[u8],
+    gray: &[u8],
+    dots: &mut [u8],
+    table: &mut [i32],
+    stats: &mut [i64],
+    changes: &mut u64,
+) -> u32
+    ensures { λ r. ⌜ (let o = swapScanOver
+        (record { width = width; height = height; radius = radius; reach = reach; start = start })
+        (now (psf .entry)) (now (gray .entry)) (now (dots .entry)) (now (table .entry)) (now (stats .entry)) in
+        (r ≡ status (o .reply))
+        × (now (dots .exit) ≡ o .buffer .dots)
+        × (now (table .exit) ≡ o .buffer .table)
+        × (now (stats .exit) ≡ after scanNumbers (now (stats .entry)) (o .reply))
+        × (now (changes .exit) ≡ after (λ done. done .changes) (now (changes .entry)) (o .reply))) ⌝ }
+{
+    let measures = Measures {
+        width: width,
+        height: height,
+        radius: radius,
+        reach: reach,
+        start: start,
+    };
+    let number = judge_stats(measures, stats);
+    if number != 0 {
+        return number;
+    }
+    let ledger = stats_of(stats);
+    let answer = search::swap_scan(measures, psf, gray, dots, table, ledger);
+    lay_scan(answer, stats, changes)
+}
+
+// A settling.
+#[no_mangle]
+pub extern "C" fn pm_converge(
+    width: usize,
+    height: usize,
+    radius: usize,
+    reach: usize,
+    start: usize,
+    psf: &[u8],
+    gray: &[u8],
+    dots: &mut [u8],
+    table: &mut [i32],
+    stats: &mut [i64],
+    scans: &mut u64,
+) -> u32
+    ensures { λ r. ⌜ (let o = convergeOver
+        (record { width = width; height = height; radius = radius; reach = reach; start = start })
+        (now (psf .entry)) (now (gray .entry)) (now (dots .entry)) (now (table .entry)) (now (stats .entry)) in
+        (r ≡ status (o .reply))
+        × (now (dots .exit) ≡ o .buffer .dots)
+        × (now (table .exit) ≡ o .buffer .table)
+        × (now (stats .exit) ≡ after convergeNumbers (now (stats .entry)) (o .reply))
+        × (now (scans .exit) ≡ after (λ done. done .scans) (now (scans .entry)) (o .reply))) ⌝ }
+{
+    let measures = Measures {
+        width: width,
+        height: height,
+        radius: radius,
+        reach: reach,
+        start: start,
+    };
+    let number = judge_stats(measures, stats);
+    if number != 0 {
+        return number;
+    }
+    let ledger = stats_of(stats);
+    let answer = search::converge(measures, psf, gray, dots, table, ledger);
+    lay_converged(answer, stats, scans)
+}
+
+// Reads a sheet.
+#[no_mangle]
+pub extern "C" fn pm_read_sheet(
+    bytes: &[u8],
+    psf: &mut [u8],
+    gray: &mut [u8],
+    dots: &mut [u8],
+    measures: &mut [usize],
+    offset: &mut usize,
+) -> u32
+    ensures { λ r. ⌜ (let o = readOver
+        (now (bytes .entry)) (now (psf .entry)) (now (gray .entry)) (now (dots .entry)) (now (measures .entry)) in
+        (r ≡ sheetStatus (o .reply))
+        × (now (psf .exit) ≡ o .psf)
+        × (now (gray .exit) ≡ o .gray)
+        × (now (dots .exit) ≡ o .dots)
+        × (now (measures .exit) ≡ sheetAfter measureNumbers (now (measures .entry)) (o .reply))
+        × (now (offset .exit) ≡ offsetAfter (now (offset .entry)) (o .reply))) ⌝ }
+{
+    if measures.len() != 5 {
+        *offset = 0;
+        return 5;
+    }
+    let answer = sheet::read_sheet(bytes, psf, gray, dots);
+    match answer {
+        Reading::Done(read) => {
+            store_measures(measures, read);
+            0
+        }
+        Reading::Refused(number, at) => {
+            *offset = at;
+            number
+        }
+    }
+}
+
+// Writes a sheet.
+#[no_mangle]
+pub extern "C" fn pm_write_sheet(
+    width: usize,
+    height: usize,
+    radius: usize,
+    reach: usize,
+    start: usize,
+    psf: &[u8],
+    gray: &[u8],
+    dots: &[u8],
+    out: &mut [u8],
+    length: &mut usize,
+    offset: &mut usize,
+) -> u32
+    ensures { λ r. ⌜ (let o = writeCall
+        (record { width = width; height = height; radius = radius; reach = reach; start = start })
+        (now (psf .entry)) (now (gray .entry)) (now (dots .entry)) (now (out .entry)) in
+        (r ≡ sheetStatus (o .reply))
+        × (now (out .exit) ≡ o .out)
+        × (now (length .exit) ≡ sheetAfter (λ n. n) (now (length .entry)) (o .reply))
+        × (now (offset .exit) ≡ offsetAfter (now (offset .entry)) (o .reply))) ⌝ }
+{
+    let measures = Measures {
+        width: width,
+        height: height,
+        radius: radius,
+        reach: reach,
+        start: start,
+    };
+    let answer = sheet::write_sheet(measures, psf, gray, dots, out);
+    match answer {
+        Writing::Done(written) => {
+            *length = written;
+            0
+        }
+        Writing::Refused(number, at) => {
+            *offset = at;
+            number
+        }
+    }
+}
