@@ -7,4 +7,5 @@ pub mod Sum
 pub mod SumOrder
 pub mod Interval
 pub mod Quadratic
+pub mod Moved
 pub mod Machine
