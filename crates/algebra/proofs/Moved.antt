@@ -80,7 +80,9 @@ moved-swap H W K L f g Y X =
     sum-cong (K * L) (λ k l. sym (sum-scale (H * W) (g k) (λ n. f n *ℤ hit k n)))
     ∙ sum-swap (K * L) (H * W) (λ k n. g k *ℤ (f n *ℤ hit k n))
     ∙ sum-cong (H * W) (λ n l.
-    sum-cong (K * L) (λ k p. *ℤ-left-comm (g k) (f n) (hit k n) ∙ ap₂ (λ u v. f n *ℤ (g k *ℤ (point Y (pos 1) u *ℤ point X (pos 1) v)))
+    sum-cong (K * L) (λ k p.
+    *ℤ-left-comm (g k) (f n) (hit k n)
+    ∙ ap₂ (λ u v. f n *ℤ (g k *ℤ (point Y (pos 1) u *ℤ point X (pos 1) v)))
     (NatL.add-comm (n / W) (k / L)) (NatL.add-comm (n % W) (k % L)))
     ∙ sum-scale (K * L) (f n) (λ k. g k *ℤ (point Y (pos 1) (k / L + n / W) *ℤ point X (pos 1) (k % L + n % W))))
   where

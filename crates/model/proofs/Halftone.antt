@@ -26,17 +26,17 @@ module _ (w h r : ℕ) (psf gray dots : List ℕ) {table : ℕ}
   abbrev target : Target
   target = targetOf w h r psf gray
 
-  errors : (n : ℕ) → natAbs (error target dots n) ≤ 255
-  errors n = error≤ target 255 dots n (omega (arith, f .bits .each n)) (bytes .each n)
+  pub errors-most : (n : ℕ) → natAbs (error target dots n) ≤ 255
+  errors-most n = error≤ target 255 dots n (omega (arith, f .bits .each n)) (bytes .each n)
 
   -- T, and each sum of its first terms
   pub filtered-part-most : (n m : ℕ) → n ≤ h * w
       → natAbs (sumTo n (λ i. kernel target i m *ℤ error target dots i)) ≤ mostFiltered
   filtered-part-most =
-      filtered-part≤ target (f .wide .0) (f .psf-fits .square) 1024 255 (f .psf-fits .sum-high) dots errors
+      filtered-part≤ target (f .wide .0) (f .psf-fits .square) 1024 255 (f .psf-fits .sum-high) dots errors-most
 
   pub filtered-most : (m : ℕ) → natAbs (filteredError target dots m) ≤ mostFiltered
-  filtered-most = filtered≤ target (f .wide .0) (f .psf-fits .square) 1024 255 (f .psf-fits .sum-high) dots errors
+  filtered-most = filtered≤ target (f .wide .0) (f .psf-fits .square) 1024 255 (f .psf-fits .sum-high) dots errors-most
 
   pub filtered-small : Small mostFiltered (filteredErrors target dots)
   unfolding filteredErrors
@@ -48,5 +48,5 @@ module _ (w h r : ℕ) (psf gray dots : List ℕ) {table : ℕ}
   pub squared-most : squaredError target dots ≤ℤ pos mostSquared
   squared-most =
       natAbs-above (squaredError target dots) mostSquared
-      (le-trans (squared≤ target (f .wide .0) (f .psf-fits .square) 1024 255 (f .psf-fits .sum-high) dots errors)
+      (le-trans (squared≤ target (f .wide .0) (f .psf-fits .square) 1024 255 (f .psf-fits .sum-high) dots errors-most)
       (mul-le-mul-right (255 * mostFiltered) (few-cells f)))

@@ -11,11 +11,12 @@ use Rattle.algebra.specs.Moved.{moved}
 use Rattle.algebra.proofs.Solver.{ring!, reify}
 use Rattle.algebra.proofs.Order.{read<, read≡}
 use Rattle.algebra.proofs.Sum.{sum-cong, sum-scale, sum-scale-r, sum-swap}
+use Rattle.algebra.proofs.SumOrder.{sum-cells}
 use Rattle.algebra.proofs.Moved.{moved-one, moved-none, moved-swap}
 use Rattle.model.specs.Psf.{psfAt, autocorrelation}
 use Rattle.model.specs.Error.{Target, cells, row, column, kernel, error, filteredError, perceivedError}
 use Rattle.model.proofs.Basic.{Place, before, within, after, place, square-inside}
-use Rattle.model.proofs.Psf.{psf-supported}
+use Rattle.model.proofs.Psf.{psf-supported, psf-entry}
 use Rattle.model.proofs.Error.{kernel-symmetric}
 
 -- the psf moved by a and b, its places counted from the corner of the widened plate
@@ -120,3 +121,23 @@ module _ (t : Target) (dots : List ℕ) where
           pull (p (at i) (at j)) _ (e n)
           ∙ ap₂ (λ y x. p (at i) (at j) *ℤ (e n *ℤ p y x))
           (turn (row t m) (row t n) (at i)) (turn (column t m) (column t n) (at j))))
+
+  -- the same over the places of the psf, coordinates counted from the edge of the widened plate
+  pub filtered-gathered : (m : ℕ)
+      → sumTo ((2 * t .radius + 1) * (2 * t .radius + 1)) (λ k. pos (getD (t .psf) k 0)
+      *ℤ perceivedError t dots (at (m / t .width + k / (2 * t .radius + 1))) (at (m % t .width + k % (2 * t .radius + 1))))
+      ≡ filteredError t dots m
+  unfolding sumFrom
+  filtered-gathered m =
+      sum-cong (s * s) (λ k h.
+      ap₂ (λ a b. a *ℤ b) (psf-entry (t .radius) (t .psf) k h)
+      (ap₂ (perceivedError t dots) (shift (m / t .width) (k / s)) (shift (m % t .width) (k % s))))
+      ∙ sum-cells s s (λ y x.
+      psfAt (t .radius) (t .psf) (at y) (at x) *ℤ perceivedError t dots (row t m +ℤ at y) (column t m +ℤ at x))
+      ∙ sym (filtered-perceived m)
+    where
+      s : ℕ
+      s = 2 * t .radius + 1
+
+      shift : (a b : ℕ) → at (a + b) ≡ pos a +ℤ at b
+      shift a b = ring! (pos (t .radius) ∷ pos a ∷ pos b ∷ []) (search reify depth 40) refl

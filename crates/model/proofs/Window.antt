@@ -7,7 +7,6 @@ use Prim.Native.Nat.{ℕ, _+_, _*_, _-_, _/_, _%_, _≤_, _<_}
 use native.Mathlib.Nat as NatL
 use native.Mathlib.Decide.{decLt}
 use native.Mathlib.Omega.{arith}
-use native.Mathlib.Numerals.{add-one}
 use lib.Dec.{ltb}
 use lib.IntN.{ℤ, pos, negsuc, negℤ, natAbs, _+ℤ_, _-ℤ_, _*ℤ_, *ℤ-comm}
 use lib.ListN.{length, getD, drop, replicate, length-replicate, getD-replicate}
@@ -17,7 +16,7 @@ use Rattle.algebra.specs.Sum.{sumTo, sumFrom}
 use Rattle.algebra.proofs.Solver.{ring!, reify}
 use Rattle.algebra.proofs.Order.{natAbs-mul-le, show≡}
 use Rattle.algebra.proofs.Grid.{row<, column<}
-use Rattle.algebra.proofs.Sum.{sumTo-suc, sum-cong}
+use Rattle.algebra.proofs.Sum.{sum-next, sum-cong}
 use Rattle.algebra.proofs.SumOrder.{sum-cells}
 use Rattle.model.specs.Basic.{pick, tabulate, gridAt, squareAt}
 use Rattle.model.specs.Psf.{psfAt, autocorrelation}
@@ -25,6 +24,7 @@ use Rattle.model.specs.Error.{Target, row, kernel, error}
 use Rattle.model.specs.Window.{gain, addWindow, scattered, Small, Scaled, HoldsKernel}
 use Rattle.model.proofs.Basic.{length-tabulate, getD-tabulate, tabulate-each, tabulate-cong}
 use Rattle.model.proofs.Basic.{square-map, square-inside}
+use Rattle.model.proofs.Psf.{psf-entry}
 use Rattle.model.proofs.Error.{kernel-symmetric}
 
 -- ---- sizes
@@ -93,7 +93,7 @@ module _ (W R : ℕ) (c : List ℤ) where
     unfolding scattered
     scattered-next N n =
         addWindow-tabulate N (scattered W R c amount row col n) (amount n) (row n) (col n)
-        ∙ tabulate-cong N (λ q h. rw add-one (sym (sumTo-suc n (λ i. amount i *ℤ gain W R c (row i) (col i) q))))
+        ∙ tabulate-cong N (λ q h. sum-next n (λ i. amount i *ℤ gain W R c (row i) (col i) q))
 
 -- ---- the table: a window of the kernel for each cell, times its error
 module _ (t : Target) (c : List ℤ) (k : HoldsKernel (t .radius) (t .psf) c) where
@@ -136,19 +136,11 @@ module _ (r : ℕ) (psf : List ℕ) where
       at : ℕ → ℤ
       at y = negℤ (pos r) +ℤ pos y
 
-      back : (y : ℕ) → negℤ (pos r) +ℤ pos y +ℤ pos r ≡ pos y
-      back y = ring! (pos r ∷ pos y ∷ []) (search reify depth 40) refl
-
       some : 0 < 2 * r + 1
       some = omega arith
 
       first : (i : ℕ) → i < s * s → getD (map pos psf) i (pos 0) ≡ psfAt r psf (at (i / s)) (at (i % s))
-      first i h =
-          List·getD-map pos psf i 0
-          ∙ ap pos (sym
-          (square-inside 0 r psf (at (i / s)) (at (i % s)) (i / s) (i % s) (back (i / s)) (back (i % s))
-          (row< i some h) (column< i some)
-          ∙ ap (λ k. getD psf k 0) (NatL.div-add-mod' i s)))
+      first i h = List·getD-map pos psf i 0 ∙ psf-entry r psf i h
 
       offset : (k y : ℕ) → y ≤ 3 * r → pos k -ℤ pos (3 * r - y) ≡ negℤ (pos r) +ℤ pos y +ℤ (pos k -ℤ pos (2 * r))
       offset k y h = show≡ (pos k ∷ pos r ∷ pos y ∷ pos (3 * r - y) ∷ []) (search reify depth 40) (omega arith)

@@ -22,7 +22,7 @@ use Rattle.model.proofs.Psf.{autocorrelation-nonneg, autocorrelation≤, autoco
 use Rattle.model.proofs.Halftone.{filtered-part-most}
 use Rattle.model.proofs.Window.{small-tabulate, small-append, square-small}
 use Rattle.model.proofs.Window.{scattered-next, windows-filtered, windows-autocorrelation}
-use Rattle.sums.specs.Scatter.{mirroredAt, mirrored, laidAt, laid, Steady}
+use Rattle.sums.specs.Scatter.{mirroredAt, mirrored}
 
 pub table-long : (N : ℕ) (f : ℕ → ℤ) {t : List ℤ} → t ≡ tabulate N f → length t ≡ N
 table-long N f e = ap length e ∙ length-tabulate N f
@@ -58,21 +58,6 @@ mirrored-is r psf e =
 module _ (w h r : ℕ) (psf gray dots : List ℕ) where
   abbrev target : Target
   target = targetOf w h r psf gray
-
-  -- with a kernel
-  module _ (c : List ℤ) (k : HoldsKernel r psf c) where
-    laid-part : (n q : ℕ) → laidAt w h r c gray dots n q ≡ sumTo n (λ i. kernel target i q *ℤ error target dots i)
-    unfolding error
-    laid-part n q = windows-filtered target c k dots n q
-
-    pub laid-is : laid w h r c gray dots ≡ filteredErrors target dots
-    unfolding laid filteredErrors filteredError
-    laid-is = tabulate-cong (h * w) (λ q l. laid-part (h * w) q)
-
-    pub laid-steady : {table : ℕ} → HalftoneFits w h r psf gray dots table → AtMost 255 gray
-        → Steady w h r c gray dots
-    laid-steady f bytes =
-        record { each = λ n q l. rw (laid-part n q) (filtered-part-most w h r psf gray dots f bytes n q l) }
 
   -- a table weighed by the errors
   pub weighed-is : length gray ≡ h * w
