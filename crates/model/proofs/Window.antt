@@ -1,5 +1,5 @@
 -- Laws of the window update: the sizes of entries, what one window makes of a table, the table that many of them leave,
--- and that the filtered error and the autocorrelation are tables built so.
+-- and that the autocorrelation is a table built so.
 use mathlib.Core.Path.{_≡_, refl, sym, _∙_, ap, ap₂, subst}
 use mathlib.Core.Bool.{Bool, true, false}
 use mathlib.Core.List.{List, [], _∷_, _++_, map}
@@ -8,22 +8,22 @@ use native.Mathlib.Nat as NatL
 use native.Mathlib.Decide.{decLt}
 use native.Mathlib.Omega.{arith}
 use lib.Dec.{ltb}
-use lib.IntN.{ℤ, pos, negsuc, negℤ, natAbs, _+ℤ_, _-ℤ_, _*ℤ_, *ℤ-comm}
+use lib.IntN.{ℤ, pos, negsuc, negℤ, natAbs, _+ℤ_, _-ℤ_, _*ℤ_}
 use lib.ListN.{length, getD, drop, replicate, length-replicate, getD-replicate}
 use lib.ListN.{List·getD-append, List·getD-map, List·getD-eq-default}
 use lib.Seq.{getD-drop, getD-append-add}
 use Rattle.algebra.specs.Sum.{sumTo, sumFrom}
-use Rattle.algebra.proofs.Solver.{ring!, reify}
+use Rattle.algebra.proofs.Solver.{reify}
 use Rattle.algebra.proofs.Order.{natAbs-mul-le, show≡}
 use Rattle.algebra.proofs.Grid.{row<, column<}
 use Rattle.algebra.proofs.Sum.{sum-next, sum-cong}
 use Rattle.algebra.proofs.SumOrder.{sum-cells}
 use Rattle.model.specs.Basic.{pick, tabulate, gridAt, squareAt}
 use Rattle.model.specs.Psf.{psfAt, autocorrelation}
-use Rattle.model.specs.Error.{Target, row, kernel, error}
+use Rattle.model.specs.Error.{Target, row, kernel}
 use Rattle.model.specs.Window.{gain, addWindow, scattered, Small, Scaled, HoldsKernel}
 use Rattle.model.proofs.Basic.{length-tabulate, getD-tabulate, tabulate-each, tabulate-cong}
-use Rattle.model.proofs.Basic.{square-map, square-inside}
+use Rattle.model.proofs.Basic.{square-map}
 use Rattle.model.proofs.Psf.{psf-entry}
 use Rattle.model.proofs.Error.{kernel-symmetric}
 
@@ -95,20 +95,12 @@ module _ (W R : ℕ) (c : List ℤ) where
         addWindow-tabulate N (scattered W R c amount row col n) (amount n) (row n) (col n)
         ∙ tabulate-cong N (λ q h. sum-next n (λ i. amount i *ℤ gain W R c (row i) (col i) q))
 
--- ---- the table: a window of the kernel for each cell, times its error
+-- ---- a window of the kernel
 module _ (t : Target) (c : List ℤ) (k : HoldsKernel (t .radius) (t .psf) c) where
   -- the window of the cell i gains c(i - q) at q
   pub gain-kernel : (i q : ℕ) → gain (t .width) (2 * t .radius) c (i / t .width) (i % t .width) q ≡ kernel t i q
   unfolding kernel
   gain-kernel i q = k .at _ _ ∙ kernel-symmetric t q i
-
-  pub windows-filtered : (dots : List ℕ) (n q : ℕ)
-      → scattered (t .width) (2 * t .radius) c (error t dots) (λ i. i / t .width) (λ i. i % t .width) n q
-      ≡ sumTo n (λ i. kernel t i q *ℤ error t dots i)
-  unfolding scattered
-  windows-filtered dots n q =
-      sum-cong n (λ i h.
-      ap (λ z. error t dots i *ℤ z) (gain-kernel i q) ∙ *ℤ-comm (error t dots i) (kernel t i q))
 
 -- ---- the autocorrelation: a window of the psf for each of its entries, times that entry, at its mirrored place
 module _ (r : ℕ) (psf : List ℕ) where

@@ -73,14 +73,20 @@ module _ (w h r : ℕ) (psf : List ℕ) where
   abbrev span : ℕ
   span = w + 2 * r
 
+  some : 0 < 2 * r + 1
+  some = omega arith
+
   -- a column of the plate, moved by one of the psf
   inner : {x b : ℕ} → x < w → b < s → x + b < span
   inner k l = omega arith
 
-  -- the rows of a block in the widened plate end within it
-  pub block-ends : (a b y : ℕ) → a < s → b < s → y < h → a * span + b + y * span + w ≤ (h + 2 * r) * span
-  block-ends a b y k l m =
-      omega (arith, NatL.add-mul a y span, rows-apart {y = a + y} {v = h + 2 * r} span (omega arith))
+  -- the rows of the block of entry k end within the widened plate
+  pub block-ends : (k : ℕ) {corner : ℕ} → corner ≡ k / s * span + k % s → k < s * s
+      → (y : ℕ) → y < h → corner + y * span + w ≤ (h + 2 * r) * span
+  block-ends k e l y m =
+      let down : k / s < s = row< k some l in
+      let along : k % s < s = column< k some in
+      omega (arith, NatL.add-mul (k / s) y span, rows-apart {y = k / s + y} {v = h + 2 * r} span (omega arith))
 
   -- the first pass
   module _ (e : List ℤ) where
@@ -103,7 +109,7 @@ module _ (w h r : ℕ) (psf : List ℕ) where
         ∙ sum-next i (λ k. pos (getD psf k 0) *ℤ moved h w f (k / s) (k % s) (q / span) (q % span)))
       where
         left : i % s < s
-        left = column< i (omega arith)
+        left = column< i some
 
         gained : (q : ℕ) → getD t′ q (pos 0)
             ≡ getD t q (pos 0) +ℤ a *ℤ moved h w f (i / s) (i % s) (q / span) (q % span)
@@ -173,7 +179,7 @@ module _ (w h r : ℕ) (psf : List ℕ) where
         NatL.le-trans (weighed≤ psf i (near q) 261120 l (λ k. small .each _)) (NatL.mul-le-mul-right 261120 few)
 
   -- ---- what the two passes leave of the errors
-  module _ (gray dots : List ℕ) (wide : 0 < w) (square : length psf ≡ (2 * r + 1) * (2 * r + 1)) where
+  module _ (gray dots : List ℕ) where
     abbrev target : Target
     target = targetOf w h r psf gray
 
@@ -183,10 +189,15 @@ module _ (w h r : ℕ) (psf : List ℕ) where
     abbrev edge : ℕ → ℤ
     edge y = negℤ (pos r) +ℤ pos y
 
-    spread-is : (Y X : ℕ) → Y < h + 2 * r → X < span
+    pub errors-small : {table : ℕ} → HalftoneFits w h r psf gray dots table → AtMost 255 gray → Small 255 errors
+    unfolding error
+    errors-small f bytes =
+        small-tabulate 255 (h * w) (errorOf 255 gray dots) (λ n l. errors-most w h r psf gray dots f bytes n)
+
+    spread-is : length psf ≡ (2 * r + 1) * (2 * r + 1) → (Y X : ℕ) → Y < h + 2 * r → X < span
         → getD (spread w h r psf errors) (Y * span + X) (pos 0) ≡ perceivedError target dots (edge Y) (edge X)
     unfolding spread spreadAt error
-    spread-is Y X k l =
+    spread-is square Y X k l =
         getD-tabulate ((h + 2 * r) * span) _ (Y * span + X) (pos 0) (cell< k l)
         ∙ ap₂ (λ y x. sumTo (length psf) (λ k. pos (getD psf k 0)
         *ℤ moved h w (λ n. getD errors n (pos 0)) (k / s) (k % s) y x))
@@ -198,22 +209,15 @@ module _ (w h r : ℕ) (psf : List ℕ) where
         (moved-cong h w (k / s) (k % s) Y X (λ n u. getD-tabulate (h * w) (errorOf 255 gray dots) n (pos 0) u)))
         ∙ perceived-spread target dots Y X
 
-    pub errors-small : {table : ℕ} → HalftoneFits w h r psf gray dots table → AtMost 255 gray → Small 255 errors
-    unfolding error
-    errors-small f bytes =
-        small-tabulate 255 (h * w) (errorOf 255 gray dots) (λ n l. errors-most w h r psf gray dots f bytes n)
-
-    pub gathered-is : gathered w h r psf (spread w h r psf errors) ≡ filteredErrors target dots
+    pub gathered-is : 0 < w → length psf ≡ (2 * r + 1) * (2 * r + 1)
+        → gathered w h r psf (spread w h r psf errors) ≡ filteredErrors target dots
     unfolding gathered gatheredAt filteredErrors
-    gathered-is =
+    gathered-is wide square =
         tabulate-cong (h * w) (λ q l.
         ap (λ n. sumTo n (λ k. pos (getD psf k 0) *ℤ near (spread w h r psf errors) q k)) square
         ∙ sum-cong (s * s) (λ k m.
         ap (λ z. pos (getD psf k 0) *ℤ z)
-        (spread-is (q / w + k / s) (q % w + k % s)
+        (spread-is square (q / w + k / s) (q % w + k % s)
         (omega (arith, row< q wide l, row< k some m))
         (inner (column< q wide) (column< k some))))
         ∙ filtered-gathered target dots q)
-      where
-        some : 0 < 2 * r + 1
-        some = omega arith

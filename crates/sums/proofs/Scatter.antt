@@ -1,5 +1,6 @@
 -- A loop that adds a window to a table in each turn: what a turn asks of the table and what it leaves, where the table
--- is known by its entries; and that the two tables built so are the autocorrelation and the filtered error.
+-- is known by its entries; that the table built so from a psf is its autocorrelation; and what else the proofs of this
+-- crate share.
 use mathlib.Core.Path.{_≡_, sym, _∙_, ap, ap₂, subst}
 use mathlib.Core.List.{List, _++_, map}
 use Prim.Native.Nat.{ℕ, _+_, _*_, _≤_}
@@ -12,16 +13,15 @@ use Rattle.algebra.specs.Sum.{sumTo}
 use Rattle.algebra.proofs.Order.{natAbs-mul-le, natAbs-below}
 use Rattle.algebra.proofs.Sum.{sum-cong}
 use Rattle.algebra.proofs.SumOrder.{natAbs-sum}
-use Rattle.model.specs.Basic.{tabulate, AtMost, squareAt}
+use Rattle.model.specs.Basic.{tabulate, squareAt}
 use Rattle.model.specs.Psf.{total, autocorrelations}
-use Rattle.model.specs.Error.{Target, targetOf, errorOf, kernel, error, filteredError, filteredErrors, squaredError}
-use Rattle.model.specs.Refusal.{PsfFits, HalftoneFits}
+use Rattle.model.specs.Error.{Target, targetOf, errorOf, error, filteredError, filteredErrors, squaredError}
+use Rattle.model.specs.Refusal.{PsfFits}
 use Rattle.model.specs.Window.{addWindow, scattered, Small, HoldsKernel, mostFiltered}
 use Rattle.model.proofs.Basic.{length-tabulate, getD-tabulate, tabulate-cong, square-append}
 use Rattle.model.proofs.Psf.{autocorrelation-nonneg, autocorrelation≤, autocorrelations-long, autocorrelations-at, side}
-use Rattle.model.proofs.Halftone.{filtered-part-most}
 use Rattle.model.proofs.Window.{small-tabulate, small-append, square-small}
-use Rattle.model.proofs.Window.{scattered-next, windows-filtered, windows-autocorrelation}
+use Rattle.model.proofs.Window.{scattered-next, windows-autocorrelation}
 use Rattle.sums.specs.Scatter.{mirroredAt, mirrored}
 
 pub table-long : (N : ℕ) (f : ℕ → ℤ) {t : List ℤ} → t ≡ tabulate N f → length t ≡ N
@@ -47,7 +47,7 @@ mirrored-small r p i q s h =
 pub side-small : {r : ℕ} → r ≤ 3 → (2 * r + 1) * (2 * r + 1) ≤ 49
 side-small {r} h = NatL.mul-le-mul {n₂ = 7} {m₂ = 7} (omega arith) (omega arith)
 
--- ---- what the two tables are
+-- ---- what the two sums are
 pub mirrored-is : (r : ℕ) (psf : List ℕ) → length psf ≡ (2 * r + 1) * (2 * r + 1)
     → mirrored r (map pos psf) ≡ autocorrelations r psf
 unfolding mirrored autocorrelations

@@ -2,7 +2,7 @@
 // the table by two passes over whole rows, and the squared error by one pass over the table.
 ghost use mathlib.Core.Path.{_≡_};
 ghost use mathlib.Core.List.{map};
-ghost use Prim.Native.Nat.{ℕ, _+_, _*_, _<_, _≤_};
+ghost use Prim.Native.Nat.{ℕ, _+_, _*_, _/_, _%_, _<_, _≤_};
 ghost use lib.IntN.{pos, natAbs, _*ℤ_};
 ghost use lib.ListN.{length, getD};
 ghost use Rattle.algebra.specs.Sum.{sumTo};
@@ -109,6 +109,15 @@ fn add_rows(
     }
 }
 
+// where entry k of the psf moves the plate's first cell to, in the widened plate
+fn corner(width: usize, radius: usize, k: usize) -> usize
+    requires { ⌜ (width ≤ 256) × (radius ≤ 3) × (k < (2 * radius + 1) * (2 * radius + 1)) ⌝ }
+    ensures { λ r. ⌜ r ≡ k / (2 * radius + 1) * (width + 2 * radius) + k % (2 * radius + 1) ⌝ }
+{
+    let side = 2 * radius + 1;
+    k / side * (width + 2 * radius) + k % side
+}
+
 // The first pass: the errors, moved by each entry of the psf and times that entry, over the widened plate.
 fn spread(width: usize, height: usize, radius: usize, psf: &[u8], e: &[i32], out: &mut [i32])
     requires { ⌜ (0 < width) × (width ≤ 256) × (height ≤ 256) × PsfFits radius (now psf) ⌝ }
@@ -117,11 +126,10 @@ fn spread(width: usize, height: usize, radius: usize, psf: &[u8], e: &[i32], out
     ensures { λ _. ⌜ now (out .exit) ≡ spread width height radius (now (psf .entry)) (now (e .entry)) ⌝ }
 {
     clear(out);
-    let side = 2 * radius + 1;
     let span = width + 2 * radius;
     let mut k: usize = 0;
     while k < psf.len() {
-        let at = k / side * span + k % side;
+        let at = corner(width, radius, k);
         let amount = psf[k] as i32;
         add_rows(out, at, span, e, 0, width, width, height, amount);
         k += 1;
@@ -136,11 +144,10 @@ fn gather(width: usize, height: usize, radius: usize, psf: &[u8], g: &[i32], out
     ensures { λ _. ⌜ now (out .exit) ≡ gathered width height radius (now (psf .entry)) (now (g .entry)) ⌝ }
 {
     clear(out);
-    let side = 2 * radius + 1;
     let span = width + 2 * radius;
     let mut k: usize = 0;
     while k < psf.len() {
-        let from = k / side * span + k % side;
+        let from = corner(width, radius, k);
         let amount = psf[k] as i32;
         add_rows(out, 0, width, g, from, span, width, height, amount);
         k += 1;

@@ -10,9 +10,6 @@ use Rattle.sums.specs.Passes.{Added}
 use Rattle.sums.proofs.Passes.{added-none, added-rest, added-next}
 use Rattle.sums.proofs.add_rows.Statement.{statement}
 use Rattle.sums.proofs.add_rows.Tie as tie
-use Rattle.sums.proofs.add_rows.Reads as reads
-use Rattle.sums.proofs.add_rows.Lts as lts
-use Rattle.window.proofs.add_run.Reads as add-run-reads
 
 abbrev Inv-loop : tie.InvT-loop
 Inv-loop table₀ at stride c from step n rows amount y₀ table y =
@@ -21,27 +18,21 @@ Inv-loop table₀ at stride c from step n rows amount y₀ table y =
 abbrev μ-loop : tie.MeasureT-loop
 μ-loop table₀ at stride c from step n rows amount y₀ table y = rows - y
 
--- src/lib.rt:104:5
 loop-holds : tie.Need-loop-holds Inv-loop μ-loop
 loop-holds c = (omega arith, added-none)
 
--- src/lib.rt:105:23
 mul-to : tie.Need-mul-to Inv-loop μ-loop
 mul-to c = omega (arith, c .before .before .pre .1 .0 (c .before .loop .y) (omega arith))
 
--- src/lib.rt:105:18
 add-to : tie.Need-add-to Inv-loop μ-loop
 add-to c = omega (arith, c .before .before .pre .1 .0 (c .before .loop .y) (omega arith))
 
--- src/lib.rt:106:28
 mul-there : tie.Need-mul-there Inv-loop μ-loop
 mul-there c = omega (arith, c .before .before .pre .1 .1 .0 (c .before .loop .y) (omega arith))
 
--- src/lib.rt:106:21
 add-there : tie.Need-add-there Inv-loop μ-loop
 add-there c = omega (arith, c .before .before .pre .1 .1 .0 (c .before .loop .y) (omega arith))
 
--- src/lib.rt:107:9
 add-run-requires : tie.Need-add-run-requires Inv-loop μ-loop
 add-run-requires c κs =
     let l = c .before .before in
@@ -54,25 +45,20 @@ add-run-requires c κs =
       ),
     )
 
--- src/lib.rt:108:9
 add-y : tie.Need-add-y Inv-loop μ-loop
 add-y c = omega arith
 
--- src/lib.rt:104:5
 loop-less : tie.Need-loop-less Inv-loop μ-loop
 loop-less c = omega arith
 
--- src/lib.rt:104:5
 loop-again : tie.Need-loop-again Inv-loop μ-loop
 loop-again c =
     let l = c .before .before .before .before in
     (omega arith, added-next (l .before .pre .0) (l .loop .inv .1) (c .before .add-run .ensures))
 
--- src/lib.rt:86:1
 same-length : tie.Need-same-length Inv-loop μ-loop
 same-length c = c .before .loop .inv .1 .long
 
--- src/lib.rt:86:1
 returns : tie.Need-returns Inv-loop μ-loop
 returns c =
     let s = c .before .before in

@@ -11,9 +11,6 @@ use Rattle.model.specs.Error.{errorOf}
 use Rattle.model.proofs.Basic.{Filling, fill-none, fill-next, fill-all}
 use Rattle.sums.proofs.errors.Statement.{statement}
 use Rattle.sums.proofs.errors.Tie as tie
-use Rattle.sums.proofs.errors.Reads as reads
-use Rattle.sums.proofs.errors.Lts as lts
-use Rattle.sums.proofs.error_at.Reads as error-at-reads
 
 abbrev Inv-loop : tie.InvT-loop
 Inv-loop gray dots out₀ n₀ out n =
@@ -22,43 +19,34 @@ Inv-loop gray dots out₀ n₀ out n =
 abbrev μ-loop : tie.MeasureT-loop
 μ-loop gray dots out₀ n₀ out n = length gray - n
 
--- src/lib.rt:77:5
 loop-holds : tie.Need-loop-holds Inv-loop μ-loop
 loop-holds c = (omega arith, fill-none (c .before .before .pre .1))
 
--- src/lib.rt:78:13
 error-at-requires : tie.Need-error-at-requires Inv-loop μ-loop
 error-at-requires c κs =
     let s = c .before .before .before .before in
     (omega arith, omega arith, s .pre .2 .each (c .before .loop .n))
 
--- src/lib.rt:79:9
 mul-e : tie.Need-mul-e Inv-loop μ-loop
 mul-e c = omega arith
 
--- src/lib.rt:79:9
 slice-set-from-e : tie.Need-slice-set-from-e Inv-loop μ-loop
 slice-set-from-e c = omega (arith, c .before .before .loop .inv .1 .long)
 
--- src/lib.rt:80:9
 add-n : tie.Need-add-n Inv-loop μ-loop
 add-n c = omega arith
 
--- src/lib.rt:77:5
 loop-less : tie.Need-loop-less Inv-loop μ-loop
 loop-less c = omega arith
 
--- src/lib.rt:77:5
 loop-again : tie.Need-loop-again Inv-loop μ-loop
 loop-again c =
     let e = of-small w32 (c .error-at .result) (c .error-at .ensures .1) (lit< tt) in
     (omega arith, fill-next (c .before .before .loop .inv .1) (omega arith) (e .value ∙ c .error-at .ensures .0))
 
--- src/lib.rt:71:1
 same-length : tie.Need-same-length Inv-loop μ-loop
 same-length c = c .before .loop .inv .1 .long ∙ sym (c .before .before .before .before .pre .1)
 
--- src/lib.rt:71:1
 returns : tie.Need-returns Inv-loop μ-loop
 returns c = fill-all (c .before .loop .inv .1) (omega arith)
 

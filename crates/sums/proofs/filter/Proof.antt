@@ -65,7 +65,7 @@ module _ (c : tie.After-errors) where
   small : Small 255 e
   small =
       errors-small (s .args .width) (s .args .height) (s .args .radius) (s .args .psf .now) (s .args .gray .now)
-      (s .args .dots .now) (s .pre .wide .0) (s .pre .psf-fits .square) (s .pre) bytes
+      (s .args .dots .now) (s .pre) bytes
 
 array-borrow-prefix-g : tie.Need-array-borrow-prefix-g
 array-borrow-prefix-g c = few (s (c .before .before))

@@ -1,16 +1,15 @@
 -- `sums::gather` meets its contract: after k entries of the psf the output is what they come to.
 use mathlib.Core.Path.{_≡_, sym, _∙_, ap}
-use Prim.Native.Nat.{_+_, _*_, _-_, _/_, _%_, _≤_, _<_}
+use Prim.Native.Nat.{ℕ, _+_, _*_, _-_, _≤_, _<_}
 use native.Mathlib.Omega.{arith}
 use lib.Dec.{lit<, lit≤}
 use lib.IntN.{pos}
 use lib.ListN.{length, getD}
 use mir.Syntax.{w32}
-use Rattle.algebra.proofs.Grid.{row<, column<, rows-apart}
-use Rattle.algebra.proofs.Machine.{Holds, of-cast, size-of, factors-fit}
+use Rattle.algebra.proofs.Grid.{rows-apart}
+use Rattle.algebra.proofs.Machine.{Holds, of-cast, size-of}
 use Rattle.model.specs.Basic.{tabulate}
 use Rattle.model.proofs.Window.{scaled-by}
-use Rattle.window.proofs.Rows.{index-fits}
 use Rattle.sums.specs.Passes.{gatheredAt, gathered}
 use Rattle.sums.proofs.Scatter.{table-long, table-small}
 use Rattle.sums.proofs.Passes.{block-ends, gathered-none, gathered-next, gathered-small}
@@ -18,20 +17,14 @@ use Rattle.sums.proofs.gather.Statement.{statement}
 use Rattle.sums.proofs.gather.Tie as tie
 
 abbrev Inv-loop : tie.InvT-loop
-Inv-loop width height radius psf g out₀ side span k₀ out k =
+Inv-loop width height radius psf g out₀ span k₀ out k =
     (k ≤ length psf) × (out ≡ tabulate (height * width) (gatheredAt width height radius psf g k))
 
 abbrev μ-loop : tie.MeasureT-loop
-μ-loop width height radius psf g out₀ side span k₀ out k = length psf - k
+μ-loop width height radius psf g out₀ span k₀ out k = length psf - k
 
 clear-requires : tie.Need-clear-requires Inv-loop μ-loop
 clear-requires c κs = tt
-
-mul-side : tie.Need-mul-side Inv-loop μ-loop
-mul-side c = let r = c .before .before .before .before .pre .0 .3 .near in omega arith
-
-add-side : tie.Need-add-side Inv-loop μ-loop
-add-side c = let r = c .before .before .before .before .pre .0 .3 .near in omega arith
 
 mul-span : tie.Need-mul-span Inv-loop μ-loop
 mul-span c = let r = c .before .before .before .before .pre .0 .3 .near in omega arith
@@ -47,66 +40,53 @@ loop-holds c =
           ∙ gathered-none (s .args .width) (s .args .height) (s .args .radius) (s .args .psf .now) (s .args .g .now) _,
     )
 
--- in a turn: the entry's row and column in the psf
-module _ (c : tie.In-loop Inv-loop μ-loop) where
-  abbrev s : tie.Start Inv-loop μ-loop
-  s = c .before .before .before .before .before .before
-
-  some : 0 < 2 * s .args .radius + 1
-  some = omega arith
-
-  entry-row : c .before .loop .k / (2 * s .args .radius + 1) < 2 * s .args .radius + 1
-  entry-row = row< (c .before .loop .k) some (omega (arith, s .pre .0 .3 .square))
-
-  entry-column : c .before .loop .k % (2 * s .args .radius + 1) < 2 * s .args .radius + 1
-  entry-column = column< (c .before .loop .k) some
-
-div-from : tie.Need-div-from Inv-loop μ-loop
-div-from c = omega arith
-
-mul-from : tie.Need-mul-from Inv-loop μ-loop
-mul-from c =
-    let r = s c .pre .0 .3 .near in
-    factors-fit 262 262 (omega (arith, entry-row c)) (omega arith) tt
-
-rem-from : tie.Need-rem-from Inv-loop μ-loop
-rem-from c = omega arith
-
-add-from : tie.Need-add-from Inv-loop μ-loop
-add-from c =
-    let r = s c .pre .0 .3 .near in
-    index-fits _ _ _ (omega (arith, entry-row c)) (omega arith) (omega (arith, entry-column c))
+corner-requires : tie.Need-corner-requires Inv-loop μ-loop
+corner-requires c κs =
+    let p = c .before .before .before .before .before .before .pre in
+    (p .0 .1, p .0 .3 .near, omega (arith, p .0 .3 .square))
 
 shared-slice-read-amount : tie.Need-shared-slice-read-amount Inv-loop μ-loop
 shared-slice-read-amount c = omega arith
 
 cast-amount : tie.Need-cast-amount Inv-loop μ-loop
-cast-amount c = record { sfits = omega (arith, c .shared-slice-known2 .given (c .before .before .loop .k)) }
+cast-amount c = record { sfits = omega (arith, c .shared-slice-known2 .given (c .before .before .before .loop .k)) }
 
--- the entry as the call takes it
+-- in a turn: the entry of the psf as the call takes it
 module _ (c : tie.After-shared-slice-known2 Inv-loop μ-loop) where
-  amount : Holds w32 (getD (s (c .before) .args .psf .now) (c .before .before .loop .k) 0)
-      (pos (getD (s (c .before) .args .psf .now) (c .before .before .loop .k) 0)) 255
-  amount = of-cast w32 _ (omega (arith, c .shared-slice-known2 .given (c .before .before .loop .k))) (lit< tt)
+  abbrev s : tie.Start Inv-loop μ-loop
+  s = c .before .before .before .before .before .before .before .before
+
+  abbrev k : ℕ
+  k = c .before .before .before .loop .k
+
+  amount : Holds w32 (getD (s .args .psf .now) k 0) (pos (getD (s .args .psf .now) k 0)) 255
+  amount = of-cast w32 _ (omega (arith, c .shared-slice-known2 .given k)) (lit< tt)
+
+  -- the rows of its block end within the widened plate
+  ends : (y : ℕ) → y < s .args .height
+      → c .before .corner .result + y * (s .args .width + 2 * s .args .radius) + s .args .width
+      ≤ (s .args .height + 2 * s .args .radius) * (s .args .width + 2 * s .args .radius)
+  ends =
+      block-ends (s .args .width) (s .args .height) (s .args .radius) (s .args .psf .now) k
+      (c .before .corner .ensures) (omega (arith, s .pre .0 .3 .square))
 
 add-rows-requires : tie.Need-add-rows-requires Inv-loop μ-loop
 add-rows-requires c κs =
-    let b = c .before .before in
-    let l = b .before .loop in
+    let b = c .before in
+    let l = b .before .before .before .loop in
     let a = s b .args in
     let p = s b .pre in
     let long = table-long _ _ (l .inv .1) in (
       omega arith,
       (
-        λ y h. omega (arith, long, rows-apart (a .width) h),
+        λ y h. omega (arith, rows-apart (a .width) h, long),
         (
-          λ y h.
-              omega (arith, p .1 .0 .0, block-ends (a .width) (a .height) (a .radius) (a .psf .now) _ _ y (entry-row b) (entry-column b) h),
+          λ y h. omega (arith, ends b y h, p .1 .0 .0),
           (
             table-small _ _ (l .inv .1) (λ q.
                 gathered-small (a .width) (a .height) (a .radius) (a .psf .now) (a .g .now) (l .k) q (p .1 .0 .1)
                 (p .0 .3 .sum-high) (l .inv .0)),
-            scaled-by _ (a .g .now) (size-of (amount (c .before))) (p .1 .0 .1) (lit≤ tt),
+            scaled-by _ (a .g .now) (size-of (amount b)) (p .1 .0 .1) (lit≤ tt),
           ),
         ),
       ),
@@ -121,12 +101,11 @@ loop-less c = omega arith
 loop-again : tie.Need-loop-again Inv-loop μ-loop
 loop-again c =
     let b = c .before .before .before in
-    let l = b .before .before .loop in
-    let a = s (b .before) .args in
-    let p = s (b .before) .pre in (
+    let a = s b .args in (
       omega arith,
-      gathered-next (a .width) (a .height) (a .radius) (a .psf .now) (a .g .now) (l .k) (p .0 .0)
-          (l .inv .1) (amount b .value) (c .before .add-rows .ensures),
+      gathered-next (a .width) (a .height) (a .radius) (a .psf .now) (a .g .now) (k b) (s b .pre .0 .0)
+          (b .before .before .before .loop .inv .1) (amount b .value)
+          (rw (b .before .corner .ensures) at (c .before .add-rows .ensures)),
     )
 
 same-length : tie.Need-same-length Inv-loop μ-loop
@@ -148,15 +127,10 @@ gather-spec =
     Inv-loop
     μ-loop
     clear-requires
-    mul-side
-    add-side
     mul-span
     add-span
     loop-holds
-    div-from
-    mul-from
-    rem-from
-    add-from
+    corner-requires
     shared-slice-read-amount
     cast-amount
     add-rows-requires

@@ -1,10 +1,10 @@
 -- `sums::weigh` meets its contract: the sum so far is that of the cells passed, and each term is small.
-use Prim.Native.Nat.{ℕ, _+_, _*_, _-_, _≤_}
+use Prim.Native.Nat.{ℕ, _*_, _-_, _≤_}
 use native.Mathlib.Omega.{arith}
-use mathlib.Core.Path.{_≡_, refl, sym, _∙_, ap}
+use mathlib.Core.Path.{_≡_, refl, _∙_, ap}
 use mathlib.Core.List.{List}
 use lib.Dec.{lit<, lit≤}
-use lib.IntN.{ℤ, pos, _+ℤ_, _*ℤ_}
+use lib.IntN.{ℤ, pos, _*ℤ_}
 use lib.ListN.{length, getD}
 use mir.Syntax.{w32, w64}
 use mir.Val.{toZ, ofZ}
