@@ -1,4 +1,4 @@
--- The laws of the integers, of finite sums, of the quadratic form and of machine numbers.
+-- The laws of the integers, of finite sums, of the quadratic form, of a grid that is moved and of machine numbers.
 pub mod Ring
 pub mod Solver
 pub mod Order
@@ -7,4 +7,5 @@ pub mod Sum
 pub mod SumOrder
 pub mod Interval
 pub mod Quadratic
+pub mod Moved
 pub mod Machine

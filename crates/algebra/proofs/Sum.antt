@@ -5,6 +5,7 @@ use mathlib.Core.Bool.{Bool, true, false, cond}
 use Prim.Native.Nat.{ℕ, zero, suc, _+_, _<_}
 use native.Mathlib.Nat as NatL
 use native.Mathlib.Decide.{ℕ-discrete}
+use native.Mathlib.Numerals.{add-one}
 use native.Mathlib.Omega.{arith}
 use lib.Dec.{T, eqb, eqb→eq, eqb-refl}
 use lib.IntN.{ℤ, pos, _+ℤ_, _*ℤ_, +ℤ-assoc, +ℤ-idl, +ℤ-idr, zero-*ℤ, *ℤ-zero, *ℤ-comm}
@@ -13,9 +14,9 @@ use Rattle.algebra.specs.Quadratic.{point}
 use Rattle.algebra.proofs.Ring.{+ℤ-swap4, *ℤ-distl}
 
 -- ---- one term more, and terms that are equal
-pub sumTo-suc : (n : ℕ) (f : ℕ → ℤ) → sumTo (suc n) f ≡ sumTo n f +ℤ f n
+pub sum-next : (n : ℕ) (f : ℕ → ℤ) → sumTo n f +ℤ f n ≡ sumTo (n + 1) f
 unfolding sumTo
-sumTo-suc n f = refl
+sum-next n f = rw add-one refl
 
 pub sum-cong : (n : ℕ) {f g : ℕ → ℤ} → ((i : ℕ) → i < n → f i ≡ g i) → sumTo n f ≡ sumTo n g
 unfolding sumTo

@@ -12,10 +12,10 @@ use lib.ListN.{length, getD}
 use Rattle.algebra.specs.Sum.{sumTo, sumFrom, sumOver}
 use Rattle.algebra.specs.Quadratic.{transform, bilinear, quadratic, Increment, Within, edited}
 use Rattle.algebra.proofs.Solver.{ring!, reify}
-use Rattle.algebra.proofs.Order.{≤ℤ-trans, 0≤-square, natAbs-show, natAbs-below, natAbs-mul-le}
+use Rattle.algebra.proofs.Order.{0≤-square, natAbs-show, natAbs-below, natAbs-mul-le}
 use Rattle.algebra.proofs.Grid.{row<, column<}
 use Rattle.algebra.proofs.Sum.{sum-cong}
-use Rattle.algebra.proofs.SumOrder.{sum-nonneg, sum-cells, sum-first≤, weighted≤, natAbs-sum}
+use Rattle.algebra.proofs.SumOrder.{sum-nonneg, sum-cells, weighted≤, natAbs-sum}
 use Rattle.algebra.proofs.Interval.{sumFrom-cong, sumFrom-swap, sumFrom-nonneg, correlate-widened, Supported2}
 use Rattle.algebra.proofs.Quadratic.{transform-edit, quadratic-edit, quadratic-cong, gram}
 use Rattle.model.specs.Psf.{total, psfAt, autocorrelation}
@@ -121,14 +121,12 @@ module _ (t : Target) where
 
     -- ---- bounds
     module _ (long : length (t .psf) ≡ (2 * t .radius + 1) * (2 * t .radius + 1)) where
-      -- the kernels of any first cells with m
-      kernels≤ : (k m : ℕ) → k ≤ cells t → sumTo k (λ n. kernel t n m) ≤ℤ (pos (total (t .psf)) *ℤ pos (total (t .psf)))
+      -- the kernels of all cells with m
+      kernels≤ : (m : ℕ) → sumTo (cells t) (λ n. kernel t n m) ≤ℤ (pos (total (t .psf)) *ℤ pos (total (t .psf)))
       unfolding kernel sumFrom
-      kernels≤ k m h =
-          ≤ℤ-trans _ (sumTo (cells t) (λ n. kernel t n m)) _
-          (sum-first≤ k (cells t) (λ n. kernel t n m) h (λ n. kernel-nonneg n m))
-          (subst (λ z. z ≤ℤ (pos (total (t .psf)) *ℤ pos (total (t .psf)))) (sym by-offset)
-          (autocorrelation-grid≤ (t .radius) (t .psf) long (t .height) (t .width) (negℤ (row t m)) (negℤ (column t m))))
+      kernels≤ m =
+          subst (λ z. z ≤ℤ (pos (total (t .psf)) *ℤ pos (total (t .psf)))) (sym by-offset)
+          (autocorrelation-grid≤ (t .radius) (t .psf) long (t .height) (t .width) (negℤ (row t m)) (negℤ (column t m)))
         where
           c : ℤ → ℤ → ℤ
           c = autocorrelation (t .radius) (t .psf)
@@ -142,20 +140,15 @@ module _ (t : Target) where
 
       module _ (M B : ℕ) (small : total (t .psf) ≤ M) (dots : List ℕ)
           (errors : (n : ℕ) → natAbs (error t dots n) ≤ B) where
-        -- T, and each sum of its first terms
-        pub filtered-part≤ : (k m : ℕ) → k ≤ cells t
-            → natAbs (sumTo k (λ n. kernel t n m *ℤ error t dots n)) ≤ M * M * B
-        filtered-part≤ k m h =
-            NatL.le-trans (weighted≤ k (λ n. kernel t n m) (error t dots) B (λ n. kernel-nonneg n m) errors)
+        pub filtered≤ : (m : ℕ) → natAbs (filteredError t dots m) ≤ M * M * B
+        unfolding filteredError
+        filtered≤ m =
+            NatL.le-trans (weighted≤ (cells t) (λ n. kernel t n m) (error t dots) B (λ n. kernel-nonneg n m) errors)
             (NatL.mul-le-mul-right B
             (NatL.le-trans
             (natAbs-below _ (total (t .psf) * total (t .psf))
-            (sum-nonneg k _ (λ n l. kernel-nonneg n m)) (kernels≤ k m h))
+            (sum-nonneg (cells t) _ (λ n l. kernel-nonneg n m)) (kernels≤ m))
             (NatL.mul-le-mul small small)))
-
-        pub filtered≤ : (m : ℕ) → natAbs (filteredError t dots m) ≤ M * M * B
-        unfolding filteredError
-        filtered≤ m = filtered-part≤ (cells t) m (NatL.le-refl (cells t))
 
         pub squared≤ : natAbs (squaredError t dots) ≤ cells t * (B * (M * M * B))
         unfolding squaredError

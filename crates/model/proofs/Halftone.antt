@@ -4,16 +4,15 @@ use mathlib.Core.List.{List}
 use Prim.Native.Nat.{ℕ, _*_, _≤_}
 use native.Mathlib.Nat.{le-trans, mul-le-mul, mul-le-mul-right}
 use native.Mathlib.Omega.{arith}
-use lib.IntN.{pos, natAbs, _*ℤ_}
+use lib.IntN.{pos, natAbs}
 use lib.Signed.{_≤ℤ_}
-use Rattle.algebra.specs.Sum.{sumTo}
 use Rattle.algebra.proofs.Order.{natAbs-above}
 use Rattle.model.specs.Basic.{AtMost}
-use Rattle.model.specs.Error.{Target, targetOf, mostSquared, kernel, error}
+use Rattle.model.specs.Error.{Target, targetOf, mostSquared, error}
 use Rattle.model.specs.Error.{filteredError, filteredErrors, squaredError}
 use Rattle.model.specs.Refusal.{HalftoneFits}
 use Rattle.model.specs.Window.{Small, mostFiltered}
-use Rattle.model.proofs.Error.{filtered-part≤, filtered≤, squared≤, squared-nonneg, error≤}
+use Rattle.model.proofs.Error.{filtered≤, squared≤, squared-nonneg, error≤}
 use Rattle.model.proofs.Window.{small-tabulate}
 
 -- its cells are at most 65,536
@@ -26,17 +25,11 @@ module _ (w h r : ℕ) (psf gray dots : List ℕ) {table : ℕ}
   abbrev target : Target
   target = targetOf w h r psf gray
 
-  errors : (n : ℕ) → natAbs (error target dots n) ≤ 255
-  errors n = error≤ target 255 dots n (omega (arith, f .bits .each n)) (bytes .each n)
-
-  -- T, and each sum of its first terms
-  pub filtered-part-most : (n m : ℕ) → n ≤ h * w
-      → natAbs (sumTo n (λ i. kernel target i m *ℤ error target dots i)) ≤ mostFiltered
-  filtered-part-most =
-      filtered-part≤ target (f .wide .0) (f .psf-fits .square) 1024 255 (f .psf-fits .sum-high) dots errors
+  pub errors-most : (n : ℕ) → natAbs (error target dots n) ≤ 255
+  errors-most n = error≤ target 255 dots n (omega (arith, f .bits .each n)) (bytes .each n)
 
   pub filtered-most : (m : ℕ) → natAbs (filteredError target dots m) ≤ mostFiltered
-  filtered-most = filtered≤ target (f .wide .0) (f .psf-fits .square) 1024 255 (f .psf-fits .sum-high) dots errors
+  filtered-most = filtered≤ target (f .wide .0) (f .psf-fits .square) 1024 255 (f .psf-fits .sum-high) dots errors-most
 
   pub filtered-small : Small mostFiltered (filteredErrors target dots)
   unfolding filteredErrors
@@ -48,5 +41,5 @@ module _ (w h r : ℕ) (psf gray dots : List ℕ) {table : ℕ}
   pub squared-most : squaredError target dots ≤ℤ pos mostSquared
   squared-most =
       natAbs-above (squaredError target dots) mostSquared
-      (le-trans (squared≤ target (f .wide .0) (f .psf-fits .square) 1024 255 (f .psf-fits .sum-high) dots errors)
+      (le-trans (squared≤ target (f .wide .0) (f .psf-fits .square) 1024 255 (f .psf-fits .sum-high) dots errors-most)
       (mul-le-mul-right (255 * mostFiltered) (few-cells f)))

@@ -2,6 +2,7 @@
 pub mod Basic
 pub mod Psf
 pub mod Error
+pub mod Spread
 pub mod Window
 pub mod Screen
 pub mod Refusal

@@ -2,17 +2,18 @@
 -- of all c is the square of the psf's sum. No mirror symmetry of the psf is used.
 use mathlib.Core.Path.{_≡_, refl, sym, _∙_, ap, ap₂, subst}
 use mathlib.Core.List.{List, [], _∷_}
-use Prim.Native.Nat.{ℕ, suc, _+_, _*_, _-_, _<_}
+use Prim.Native.Nat.{ℕ, suc, _+_, _*_, _-_, _/_, _%_, _≤_, _<_}
+use native.Mathlib.Nat as NatL
 use native.Mathlib.Omega.{arith}
-use lib.IntN.{ℤ, pos, negℤ, _+ℤ_, _-ℤ_, _*ℤ_, +ℤ-idl, *ℤ-comm, *ℤ-zero}
+use lib.IntN.{ℤ, pos, negℤ, natAbs, _+ℤ_, _-ℤ_, _*ℤ_, +ℤ-idl, *ℤ-comm, *ℤ-zero}
 use lib.Signed.{_≤ℤ_, _<ℤ_}
 use lib.ListN.{length, getD}
 use Rattle.algebra.specs.Sum.{sumTo, sumFrom}
 use Rattle.algebra.proofs.Solver.{ring!, reify}
-use Rattle.algebra.proofs.Order.{ordℤ, show<, show≡, read<, 0≤-mul}
-use Rattle.algebra.proofs.Grid.{cell-row, cell-column, cell<}
+use Rattle.algebra.proofs.Order.{ordℤ, show<, show≡, read<, 0≤-mul, natAbs-below}
+use Rattle.algebra.proofs.Grid.{cell-row, cell-column, cell<, row<, column<}
 use Rattle.algebra.proofs.Sum.{sum-cong, sum-split, sum-zeros, sum-scale-r}
-use Rattle.algebra.proofs.SumOrder.{sum-grid}
+use Rattle.algebra.proofs.SumOrder.{sum-grid, sum-nonneg, sum-first≤, weighted≤}
 use Rattle.algebra.proofs.Interval.{sumFrom-cong, sumFrom-swap, sumFrom-swap2, sumFrom-scale, sumFrom-one}
 use Rattle.algebra.proofs.Interval.{sumFrom-shift, sumFrom-nonneg, correlate-turn, Supported2, grid≤, grid-whole}
 use Rattle.model.specs.Basic.{squareAt}
@@ -43,6 +44,21 @@ total-sum (x ∷ l) =
     one-add : (i : ℕ) → 1 + i ≡ suc i
     one-add i = omega arith
 
+-- small terms weighed by the first entries
+pub weighed≤ : (psf : List ℕ) (i : ℕ) (f : ℕ → ℤ) (B : ℕ) → i ≤ length psf → ((k : ℕ) → natAbs (f k) ≤ B)
+    → natAbs (sumTo i (λ k. pos (getD psf k 0) *ℤ f k)) ≤ total psf * B
+weighed≤ psf i f B h small =
+    NatL.le-trans (weighted≤ i p f B nonneg small)
+    (NatL.mul-le-mul-right B
+    (natAbs-below (sumTo i p) (total psf) (sum-nonneg i p (λ k l. nonneg k))
+    (subst (λ z. sumTo i p ≤ℤ z) (total-sum psf) (sum-first≤ i (length psf) p h nonneg))))
+  where
+    p : ℕ → ℤ
+    p k = pos (getD psf k 0)
+
+    nonneg : (k : ℕ) → pos 0 ≤ℤ pos (getD psf k 0)
+    nonneg k = omega (arith, ordℤ)
+
 module _ (r : ℕ) (psf : List ℕ) where
   pub psf-supported : Supported2 r (psfAt r psf)
   unfolding psfAt
@@ -62,6 +78,9 @@ module _ (r : ℕ) (psf : List ℕ) where
   unfolding psfAt
   psf-nonneg y x = omega (arith, ordℤ)
 
+  back : (i : ℕ) → negℤ (pos r) +ℤ pos i +ℤ pos r ≡ pos i
+  back i = ring! (pos r ∷ pos i ∷ []) (search reify depth 40) refl
+
   -- the sum over its square, with its entries' sum
   mass : ℤ
   mass = sumFrom (negℤ (pos r)) (2 * r + 1) (λ y. sumFrom (negℤ (pos r)) (2 * r + 1) (psfAt r psf y))
@@ -74,9 +93,20 @@ module _ (r : ℕ) (psf : List ℕ) where
       ∙ sym (sum-grid (2 * r + 1) (2 * r + 1) (λ n. pos (getD psf n 0)))
       ∙ ap (λ n. sumTo n (λ n. pos (getD psf n 0))) (sym e)
       ∙ total-sum psf
+
+  -- an entry by its place in the list
+  pub psf-entry : (k : ℕ) → k < (2 * r + 1) * (2 * r + 1)
+      → pos (getD psf k 0)
+      ≡ psfAt r psf (negℤ (pos r) +ℤ pos (k / (2 * r + 1))) (negℤ (pos r) +ℤ pos (k % (2 * r + 1)))
+  unfolding psfAt
+  psf-entry k h =
+      ap pos (sym
+      (square-inside 0 r psf _ _ (k / (2 * r + 1)) (k % (2 * r + 1)) (back (k / (2 * r + 1))) (back (k % (2 * r + 1)))
+      (row< k some h) (column< k some)
+      ∙ ap (λ i. getD psf i 0) (NatL.div-add-mod' k (2 * r + 1))))
     where
-      back : (i : ℕ) → negℤ (pos r) +ℤ pos i +ℤ pos r ≡ pos i
-      back i = ring! (pos r ∷ pos i ∷ []) (search reify depth 40) refl
+      some : 0 < 2 * r + 1
+      some = omega arith
 
   -- c(d) = c(-d)
   pub autocorrelation-even : (dy dx : ℤ) → autocorrelation r psf dy dx ≡ autocorrelation r psf (negℤ dy) (negℤ dx)

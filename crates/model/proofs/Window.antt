@@ -1,5 +1,5 @@
 -- Laws of the window update: the sizes of entries, what one window makes of a table, the table that many of them leave,
--- and that the filtered error and the autocorrelation are tables built so.
+-- and that the autocorrelation is a table built so.
 use mathlib.Core.Path.{_≡_, refl, sym, _∙_, ap, ap₂, subst}
 use mathlib.Core.Bool.{Bool, true, false}
 use mathlib.Core.List.{List, [], _∷_, _++_, map}
@@ -7,24 +7,24 @@ use Prim.Native.Nat.{ℕ, _+_, _*_, _-_, _/_, _%_, _≤_, _<_}
 use native.Mathlib.Nat as NatL
 use native.Mathlib.Decide.{decLt}
 use native.Mathlib.Omega.{arith}
-use native.Mathlib.Numerals.{add-one}
 use lib.Dec.{ltb}
-use lib.IntN.{ℤ, pos, negsuc, negℤ, natAbs, _+ℤ_, _-ℤ_, _*ℤ_, *ℤ-comm}
+use lib.IntN.{ℤ, pos, negsuc, negℤ, natAbs, _+ℤ_, _-ℤ_, _*ℤ_}
 use lib.ListN.{length, getD, drop, replicate, length-replicate, getD-replicate}
 use lib.ListN.{List·getD-append, List·getD-map, List·getD-eq-default}
 use lib.Seq.{getD-drop, getD-append-add}
 use Rattle.algebra.specs.Sum.{sumTo, sumFrom}
-use Rattle.algebra.proofs.Solver.{ring!, reify}
+use Rattle.algebra.proofs.Solver.{reify}
 use Rattle.algebra.proofs.Order.{natAbs-mul-le, show≡}
 use Rattle.algebra.proofs.Grid.{row<, column<}
-use Rattle.algebra.proofs.Sum.{sumTo-suc, sum-cong}
+use Rattle.algebra.proofs.Sum.{sum-next, sum-cong}
 use Rattle.algebra.proofs.SumOrder.{sum-cells}
 use Rattle.model.specs.Basic.{pick, tabulate, gridAt, squareAt}
 use Rattle.model.specs.Psf.{psfAt, autocorrelation}
-use Rattle.model.specs.Error.{Target, row, kernel, error}
+use Rattle.model.specs.Error.{Target, row, kernel}
 use Rattle.model.specs.Window.{gain, addWindow, scattered, Small, Scaled, HoldsKernel}
 use Rattle.model.proofs.Basic.{length-tabulate, getD-tabulate, tabulate-each, tabulate-cong}
-use Rattle.model.proofs.Basic.{square-map, square-inside}
+use Rattle.model.proofs.Basic.{square-map}
+use Rattle.model.proofs.Psf.{psf-entry}
 use Rattle.model.proofs.Error.{kernel-symmetric}
 
 -- ---- sizes
@@ -93,22 +93,14 @@ module _ (W R : ℕ) (c : List ℤ) where
     unfolding scattered
     scattered-next N n =
         addWindow-tabulate N (scattered W R c amount row col n) (amount n) (row n) (col n)
-        ∙ tabulate-cong N (λ q h. rw add-one (sym (sumTo-suc n (λ i. amount i *ℤ gain W R c (row i) (col i) q))))
+        ∙ tabulate-cong N (λ q h. sum-next n (λ i. amount i *ℤ gain W R c (row i) (col i) q))
 
--- ---- the table: a window of the kernel for each cell, times its error
+-- ---- a window of the kernel
 module _ (t : Target) (c : List ℤ) (k : HoldsKernel (t .radius) (t .psf) c) where
   -- the window of the cell i gains c(i - q) at q
   pub gain-kernel : (i q : ℕ) → gain (t .width) (2 * t .radius) c (i / t .width) (i % t .width) q ≡ kernel t i q
   unfolding kernel
   gain-kernel i q = k .at _ _ ∙ kernel-symmetric t q i
-
-  pub windows-filtered : (dots : List ℕ) (n q : ℕ)
-      → scattered (t .width) (2 * t .radius) c (error t dots) (λ i. i / t .width) (λ i. i % t .width) n q
-      ≡ sumTo n (λ i. kernel t i q *ℤ error t dots i)
-  unfolding scattered
-  windows-filtered dots n q =
-      sum-cong n (λ i h.
-      ap (λ z. error t dots i *ℤ z) (gain-kernel i q) ∙ *ℤ-comm (error t dots i) (kernel t i q))
 
 -- ---- the autocorrelation: a window of the psf for each of its entries, times that entry, at its mirrored place
 module _ (r : ℕ) (psf : List ℕ) where
@@ -136,19 +128,11 @@ module _ (r : ℕ) (psf : List ℕ) where
       at : ℕ → ℤ
       at y = negℤ (pos r) +ℤ pos y
 
-      back : (y : ℕ) → negℤ (pos r) +ℤ pos y +ℤ pos r ≡ pos y
-      back y = ring! (pos r ∷ pos y ∷ []) (search reify depth 40) refl
-
       some : 0 < 2 * r + 1
       some = omega arith
 
       first : (i : ℕ) → i < s * s → getD (map pos psf) i (pos 0) ≡ psfAt r psf (at (i / s)) (at (i % s))
-      first i h =
-          List·getD-map pos psf i 0
-          ∙ ap pos (sym
-          (square-inside 0 r psf (at (i / s)) (at (i % s)) (i / s) (i % s) (back (i / s)) (back (i % s))
-          (row< i some h) (column< i some)
-          ∙ ap (λ k. getD psf k 0) (NatL.div-add-mod' i s)))
+      first i h = List·getD-map pos psf i 0 ∙ psf-entry r psf i h
 
       offset : (k y : ℕ) → y ≤ 3 * r → pos k -ℤ pos (3 * r - y) ≡ negℤ (pos r) +ℤ pos y +ℤ (pos k -ℤ pos (2 * r))
       offset k y h = show≡ (pos k ∷ pos r ∷ pos y ∷ pos (3 * r - y) ∷ []) (search reify depth 40) (omega arith)

@@ -1,5 +1,6 @@
 -- A loop that adds a window to a table in each turn: what a turn asks of the table and what it leaves, where the table
--- is known by its entries; and that the two tables built so are the autocorrelation and the filtered error.
+-- is known by its entries; that the table built so from a psf is its autocorrelation; and what else the proofs of this
+-- crate share.
 use mathlib.Core.Path.{_≡_, sym, _∙_, ap, ap₂, subst}
 use mathlib.Core.List.{List, _++_, map}
 use Prim.Native.Nat.{ℕ, _+_, _*_, _≤_}
@@ -12,17 +13,16 @@ use Rattle.algebra.specs.Sum.{sumTo}
 use Rattle.algebra.proofs.Order.{natAbs-mul-le, natAbs-below}
 use Rattle.algebra.proofs.Sum.{sum-cong}
 use Rattle.algebra.proofs.SumOrder.{natAbs-sum}
-use Rattle.model.specs.Basic.{tabulate, AtMost, squareAt}
+use Rattle.model.specs.Basic.{tabulate, squareAt}
 use Rattle.model.specs.Psf.{total, autocorrelations}
-use Rattle.model.specs.Error.{Target, targetOf, errorOf, kernel, error, filteredError, filteredErrors, squaredError}
-use Rattle.model.specs.Refusal.{PsfFits, HalftoneFits}
+use Rattle.model.specs.Error.{Target, targetOf, errorOf, error, filteredError, filteredErrors, squaredError}
+use Rattle.model.specs.Refusal.{PsfFits}
 use Rattle.model.specs.Window.{addWindow, scattered, Small, HoldsKernel, mostFiltered}
 use Rattle.model.proofs.Basic.{length-tabulate, getD-tabulate, tabulate-cong, square-append}
 use Rattle.model.proofs.Psf.{autocorrelation-nonneg, autocorrelation≤, autocorrelations-long, autocorrelations-at, side}
-use Rattle.model.proofs.Halftone.{filtered-part-most}
 use Rattle.model.proofs.Window.{small-tabulate, small-append, square-small}
-use Rattle.model.proofs.Window.{scattered-next, windows-filtered, windows-autocorrelation}
-use Rattle.sums.specs.Scatter.{mirroredAt, mirrored, laidAt, laid, Steady}
+use Rattle.model.proofs.Window.{scattered-next, windows-autocorrelation}
+use Rattle.sums.specs.Scatter.{mirroredAt, mirrored}
 
 pub table-long : (N : ℕ) (f : ℕ → ℤ) {t : List ℤ} → t ≡ tabulate N f → length t ≡ N
 table-long N f e = ap length e ∙ length-tabulate N f
@@ -47,7 +47,7 @@ mirrored-small r p i q s h =
 pub side-small : {r : ℕ} → r ≤ 3 → (2 * r + 1) * (2 * r + 1) ≤ 49
 side-small {r} h = NatL.mul-le-mul {n₂ = 7} {m₂ = 7} (omega arith) (omega arith)
 
--- ---- what the two tables are
+-- ---- what the two sums are
 pub mirrored-is : (r : ℕ) (psf : List ℕ) → length psf ≡ (2 * r + 1) * (2 * r + 1)
     → mirrored r (map pos psf) ≡ autocorrelations r psf
 unfolding mirrored autocorrelations
@@ -58,21 +58,6 @@ mirrored-is r psf e =
 module _ (w h r : ℕ) (psf gray dots : List ℕ) where
   abbrev target : Target
   target = targetOf w h r psf gray
-
-  -- with a kernel
-  module _ (c : List ℤ) (k : HoldsKernel r psf c) where
-    laid-part : (n q : ℕ) → laidAt w h r c gray dots n q ≡ sumTo n (λ i. kernel target i q *ℤ error target dots i)
-    unfolding error
-    laid-part n q = windows-filtered target c k dots n q
-
-    pub laid-is : laid w h r c gray dots ≡ filteredErrors target dots
-    unfolding laid filteredErrors filteredError
-    laid-is = tabulate-cong (h * w) (λ q l. laid-part (h * w) q)
-
-    pub laid-steady : {table : ℕ} → HalftoneFits w h r psf gray dots table → AtMost 255 gray
-        → Steady w h r c gray dots
-    laid-steady f bytes =
-        record { each = λ n q l. rw (laid-part n q) (filtered-part-most w h r psf gray dots f bytes n q l) }
 
   -- a table weighed by the errors
   pub weighed-is : length gray ≡ h * w

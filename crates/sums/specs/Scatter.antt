@@ -1,11 +1,10 @@
--- The two tables that are built by windows, as the functions of this crate leave them.
+-- The autocorrelation as windows build it.
 use mathlib.Core.List.{List}
-use Prim.Native.Nat.{ℕ, _+_, _*_, _-_, _/_, _%_, _≤_}
-use lib.IntN.{ℤ, pos, natAbs}
+use Prim.Native.Nat.{ℕ, _+_, _*_, _-_, _/_, _%_}
+use lib.IntN.{ℤ, pos}
 use lib.ListN.{length, getD}
 use Rattle.model.specs.Basic.{tabulate}
-use Rattle.model.specs.Error.{errorOf}
-use Rattle.model.specs.Window.{scattered, mostFiltered}
+use Rattle.model.specs.Window.{scattered}
 
 module _ (r : ℕ) (p : List ℤ) where
   -- the first n entries of p, each with a window of p around its mirrored place
@@ -15,15 +14,3 @@ module _ (r : ℕ) (p : List ℤ) where
 
   unfoldable pub mirrored : List ℤ
   mirrored = tabulate ((4 * r + 1) * (4 * r + 1)) (mirroredAt (length p))
-
-module _ (width height r : ℕ) (c : List ℤ) (gray dots : List ℕ) where
-  -- the errors of the first n cells, each with a window of c around its cell
-  abbrev pub laidAt : ℕ → ℕ → ℤ
-  laidAt = scattered width (2 * r) c (errorOf 255 gray dots) (λ n. n / width) (λ n. n % width)
-
-  unfoldable pub laid : List ℤ
-  laid = tabulate (height * width) (laidAt (height * width))
-
-  -- no table on the way is larger than the largest
-  pub record Steady : Type 0 where
-    pub each : (n q : ℕ) → n ≤ height * width → natAbs (laidAt n q) ≤ mostFiltered

@@ -1,8 +1,8 @@
-// The sums of document 01 over input that has been judged: the autocorrelation and the table, each built from zeros by
-// one window for each entry, and the squared error by one pass over the table.
+// The sums of document 01 over input that has been judged: the autocorrelation by one window for each entry of the psf,
+// the table by two passes over whole rows, and the squared error by one pass over the table.
 ghost use mathlib.Core.Path.{_≡_};
 ghost use mathlib.Core.List.{map};
-ghost use Prim.Native.Nat.{_+_, _*_, _<_, _≤_};
+ghost use Prim.Native.Nat.{ℕ, _+_, _*_, _/_, _%_, _<_, _≤_};
 ghost use lib.IntN.{pos, natAbs, _*ℤ_};
 ghost use lib.ListN.{length, getD};
 ghost use Rattle.algebra.specs.Sum.{sumTo};
@@ -10,8 +10,10 @@ ghost use Rattle.model.specs.Basic.{tabulate, AtMost};
 ghost use Rattle.model.specs.Psf.{autocorrelations};
 ghost use Rattle.model.specs.Error.{errorOf, targetOf, filteredErrors, squaredError};
 ghost use Rattle.model.specs.Refusal.{PsfFits, HalftoneFits};
-ghost use Rattle.model.specs.Window.{Small, HoldsKernel, mostFiltered};
-ghost use Rattle.sums.specs.Scatter.{mirrored, laid, Steady};
+ghost use Rattle.model.specs.Window.{Small, Scaled, HoldsKernel, mostFiltered};
+ghost use Rattle.sums.specs.Scatter.{mirrored};
+ghost use Rattle.sums.specs.Passes.{Added, spread, gathered};
+use window::add_run;
 use window::add_window;
 
 // every entry 0
@@ -65,32 +67,90 @@ fn correlate(radius: usize, p: &[i32], out: &mut [i32])
     }
 }
 
-// The windows of c with each cell's error, laid around that cell: Σₙ e(n) × c(q - n) at each cell q.
-fn lay(
-    width: usize,
-    height: usize,
-    radius: usize,
-    c: &[i32],
-    gray: &[u8],
-    dots: &[u8],
-    table: &mut [i32],
-)
-    requires { ⌜ (0 < width) × (width ≤ 256) × (height ≤ 256) × (radius ≤ 3) ⌝ }
-    requires { ⌜ ((4 * radius + 1) * (4 * radius + 1) ≤ length (now c)) × Small 1048576 (now c) ⌝ }
-    requires { ⌜ (length (now gray) ≡ height * width) × (length (now dots) ≡ height * width)
-        × (length (now table) ≡ height * width) ⌝ }
-    requires { ⌜ AtMost 1 (now dots) × Steady width height radius (now c) (now gray) (now dots) ⌝ }
-    ensures { λ _. ⌜ now (table .exit) ≡ laid width height radius
-        (now (c .entry)) (now (gray .entry)) (now (dots .entry)) ⌝ }
+// the error of each cell
+fn errors(gray: &[u8], dots: &[u8], out: &mut [i32])
+    requires { ⌜ (length (now dots) ≡ length (now gray)) × (length (now out) ≡ length (now gray)) × AtMost 1 (now dots) ⌝ }
+    ensures { λ _. ⌜ now (out .exit)
+        ≡ tabulate (length (now (gray .entry))) (errorOf 255 (now (gray .entry)) (now (dots .entry))) ⌝ }
 {
-    clear(table);
     let mut n: usize = 0;
     while n < gray.len() {
-        let row = n / width;
-        let col = n % width;
-        let amount = error_at(gray, dots, n);
-        add_window(table, width, height, row, col, 2 * radius, c, amount);
+        let e = error_at(gray, dots, n);
+        out[n] = e;
         n += 1;
+    }
+}
+
+// Rows of n entries of c, times the amount, are added to the table: row y from `from + y × step` on in c, and from
+// `at + y × stride` on in the table.
+fn add_rows(
+    table: &mut [i32],
+    at: usize,
+    stride: usize,
+    c: &[i32],
+    from: usize,
+    step: usize,
+    n: usize,
+    rows: usize,
+    amount: i32,
+)
+    requires { ⌜ n ≤ stride ⌝ }
+    requires { ⌜ ((y : ℕ) → y < rows → at + y * stride + n ≤ length (now table)) ⌝ }
+    requires { ⌜ ((y : ℕ) → y < rows → from + y * step + n ≤ length (now c)) ⌝ }
+    requires { ⌜ Small mostFiltered (now table) × Scaled mostFiltered amount (now c) ⌝ }
+    ensures { λ _. ⌜ Added at stride (now (c .entry)) from step n rows amount (now (table .entry)) (now (table .exit)) ⌝ }
+{
+    let mut y: usize = 0;
+    while y < rows {
+        let to = at + y * stride;
+        let there = from + y * step;
+        add_run(table, to, c, there, n, amount);
+        y += 1;
+    }
+}
+
+// where entry k of the psf moves the plate's first cell to, in the widened plate
+fn corner(width: usize, radius: usize, k: usize) -> usize
+    requires { ⌜ (width ≤ 256) × (radius ≤ 3) × (k < (2 * radius + 1) * (2 * radius + 1)) ⌝ }
+    ensures { λ r. ⌜ r ≡ k / (2 * radius + 1) * (width + 2 * radius) + k % (2 * radius + 1) ⌝ }
+{
+    let side = 2 * radius + 1;
+    k / side * (width + 2 * radius) + k % side
+}
+
+// The first pass: the errors, moved by each entry of the psf and times that entry, over the widened plate.
+fn spread(width: usize, height: usize, radius: usize, psf: &[u8], e: &[i32], out: &mut [i32])
+    requires { ⌜ (0 < width) × (width ≤ 256) × (height ≤ 256) × PsfFits radius (now psf) ⌝ }
+    requires { ⌜ (length (now e) ≡ height * width) × Small 255 (now e) ⌝ }
+    requires { ⌜ length (now out) ≡ (height + 2 * radius) * (width + 2 * radius) ⌝ }
+    ensures { λ _. ⌜ now (out .exit) ≡ spread width height radius (now (psf .entry)) (now (e .entry)) ⌝ }
+{
+    clear(out);
+    let span = width + 2 * radius;
+    let mut k: usize = 0;
+    while k < psf.len() {
+        let at = corner(width, radius, k);
+        let amount = psf[k] as i32;
+        add_rows(out, at, span, e, 0, width, width, height, amount);
+        k += 1;
+    }
+}
+
+// The second pass: at each cell, what stands around it in the widened plate, times the entries of the psf.
+fn gather(width: usize, height: usize, radius: usize, psf: &[u8], g: &[i32], out: &mut [i32])
+    requires { ⌜ (0 < width) × (width ≤ 256) × (height ≤ 256) × PsfFits radius (now psf) ⌝ }
+    requires { ⌜ (length (now g) ≡ (height + 2 * radius) * (width + 2 * radius)) × Small 261120 (now g) ⌝ }
+    requires { ⌜ length (now out) ≡ height * width ⌝ }
+    ensures { λ _. ⌜ now (out .exit) ≡ gathered width height radius (now (psf .entry)) (now (g .entry)) ⌝ }
+{
+    clear(out);
+    let span = width + 2 * radius;
+    let mut k: usize = 0;
+    while k < psf.len() {
+        let from = corner(width, radius, k);
+        let amount = psf[k] as i32;
+        add_rows(out, 0, width, g, from, span, width, height, amount);
+        k += 1;
     }
 }
 
@@ -147,8 +207,11 @@ pub fn filter(
     ensures { λ _. ⌜ now (table .exit) ≡ filteredErrors
         (targetOf width height radius (now (psf .entry)) (now (gray .entry))) (now (dots .entry)) ⌝ }
 {
-    let c = kernel(radius, psf);
-    lay(width, height, radius, &c, gray, dots, table);
+    let mut g = [0i32; 68644];
+    let n = (height + 2 * radius) * (width + 2 * radius);
+    errors(gray, dots, table);
+    spread(width, height, radius, psf, table, &mut g[..n]);
+    gather(width, height, radius, psf, &g[..n], table);
 }
 
 // the table of a judged plate, and its squared error by one pass over the table

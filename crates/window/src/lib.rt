@@ -7,7 +7,7 @@ ghost use Rattle.model.specs.Window.{addWindow, Small, Scaled, mostFiltered};
 ghost use Rattle.window.specs.Run.{Ran};
 
 // A run of n entries of c, times the amount, is added to the table's entries from `at` on.
-fn add_run(table: &mut [i32], at: usize, c: &[i32], from: usize, n: usize, amount: i32)
+pub fn add_run(table: &mut [i32], at: usize, c: &[i32], from: usize, n: usize, amount: i32)
     requires { ⌜ (at + n ≤ length (now table)) × (from + n ≤ length (now c)) ⌝ }
     requires { ⌜ ((q : ℕ) → at ≤ q → natAbs (getD (now table) q (pos 0)) ≤ mostFiltered) ⌝ }
     requires { ⌜ Scaled mostFiltered amount (now c) ⌝ }

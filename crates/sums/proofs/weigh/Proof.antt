@@ -1,18 +1,17 @@
 -- `sums::weigh` meets its contract: the sum so far is that of the cells passed, and each term is small.
-use Prim.Native.Nat.{ℕ, _+_, _*_, _-_, _≤_}
-use native.Mathlib.Numerals.{add-one}
+use Prim.Native.Nat.{ℕ, _*_, _-_, _≤_}
 use native.Mathlib.Omega.{arith}
-use mathlib.Core.Path.{_≡_, refl, sym, _∙_, ap}
+use mathlib.Core.Path.{_≡_, refl, _∙_, ap}
 use mathlib.Core.List.{List}
 use lib.Dec.{lit<, lit≤}
-use lib.IntN.{ℤ, pos, _+ℤ_, _*ℤ_}
+use lib.IntN.{ℤ, pos, _*ℤ_}
 use lib.ListN.{length, getD}
 use mir.Syntax.{w32, w64}
 use mir.Val.{toZ, ofZ}
 use Rattle.algebra.specs.Sum.{sumTo}
 use Rattle.algebra.proofs.Machine.{Holds, of-small, named, wider, cast-fits, cast-holds}
 use Rattle.algebra.proofs.Machine.{mul-fits, mul-holds, add-fits, add-holds}
-use Rattle.algebra.proofs.Sum.{sumTo-suc}
+use Rattle.algebra.proofs.Sum.{sum-next}
 use Rattle.model.specs.Error.{errorOf}
 use Rattle.sums.proofs.weigh.Statement.{statement}
 use Rattle.sums.proofs.weigh.Tie as tie
@@ -88,8 +87,7 @@ loop-again c =
     let m = l b .loop .m in
     let f = term (s b .args .gray .now) (s b .args .dots .now) (s b .args .table .now) in
     let product = mul-holds (factor b) (cast-holds w64 (held b) (lit< tt)) (lit< tt) in
-    let next : sumTo m f +ℤ f m ≡ sumTo (m + 1) f = rw add-one (sym (sumTo-suc m f)) in
-    (omega arith, wider (omega arith) (named next (add-holds (l b .loop .inv .1) product (omega arith))))
+    (omega arith, wider (omega arith) (named (sum-next m f) (add-holds (l b .loop .inv .1) product (omega arith))))
 
 returns : tie.Need-returns Inv-loop μ-loop
 returns c =
