@@ -4,7 +4,7 @@ use native.Mathlib.Omega.{arith}
 use borrow.Author.Needs.{needs}
 use Rattle.algebra.proofs.Grid.{row<, column<}
 use Rattle.algebra.proofs.Machine.{factors-fit}
-use Rattle.window.proofs.Rows.{index-fits}
+use Rattle.window.proofs.Rows.{wide-index-fits}
 use Rattle.sums.proofs.corner.Statement.{statement}
 use Rattle.sums.proofs.corner.Tie as tie
 
@@ -41,7 +41,7 @@ rem-result : tie.Need-rem-result
 rem-result c = search needs
 
 add-result-2 : tie.Need-add-result-2
-add-result-2 c = index-fits _ _ _ (omega (arith, entry-row c)) (omega arith) (omega (arith, entry-column c))
+add-result-2 c = wide-index-fits _ _ _ (omega (arith, entry-row c)) (omega arith) (omega (arith, entry-column c))
 
 returns : tie.Need-returns
 returns c = search needs
