@@ -125,7 +125,8 @@ module _ (t : Target) (dots : List ℕ) where
   -- the same over the places of the psf, coordinates counted from the edge of the widened plate
   pub filtered-gathered : (m : ℕ)
       → sumTo ((2 * t .radius + 1) * (2 * t .radius + 1)) (λ k. pos (getD (t .psf) k 0)
-      *ℤ perceivedError t dots (at (m / t .width + k / (2 * t .radius + 1))) (at (m % t .width + k % (2 * t .radius + 1))))
+      *ℤ perceivedError t dots
+      (at (m / t .width + k / (2 * t .radius + 1))) (at (m % t .width + k % (2 * t .radius + 1))))
       ≡ filteredError t dots m
   unfolding sumFrom
   filtered-gathered m =

@@ -69,7 +69,8 @@ fn correlate(radius: usize, p: &[i32], out: &mut [i32])
 
 // the error of each cell
 fn errors(gray: &[u8], dots: &[u8], out: &mut [i32])
-    requires { ⌜ (length (now dots) ≡ length (now gray)) × (length (now out) ≡ length (now gray)) × AtMost 1 (now dots) ⌝ }
+    requires { ⌜ (length (now dots) ≡ length (now gray)) × (length (now out) ≡ length (now gray))
+        × AtMost 1 (now dots) ⌝ }
     ensures { λ _. ⌜ now (out .exit)
         ≡ tabulate (length (now (gray .entry))) (errorOf 255 (now (gray .entry)) (now (dots .entry))) ⌝ }
 {
@@ -98,7 +99,8 @@ fn add_rows(
     requires { ⌜ ((y : ℕ) → y < rows → at + y * stride + n ≤ length (now table)) ⌝ }
     requires { ⌜ ((y : ℕ) → y < rows → from + y * step + n ≤ length (now c)) ⌝ }
     requires { ⌜ Small mostFiltered (now table) × Scaled mostFiltered amount (now c) ⌝ }
-    ensures { λ _. ⌜ Added at stride (now (c .entry)) from step n rows amount (now (table .entry)) (now (table .exit)) ⌝ }
+    ensures { λ _. ⌜ Added at stride (now (c .entry)) from step n rows amount
+        (now (table .entry)) (now (table .exit)) ⌝ }
 {
     let mut y: usize = 0;
     while y < rows {

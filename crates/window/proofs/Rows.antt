@@ -106,11 +106,8 @@ module _ (width reach row col : ℕ) (c : List ℤ) (amount : ℤ) where
       ]
 
 -- ---- where the run of a row stands: its first index is small, and n entries from there end within the rows
-pub wide-index-fits : (i n j : ℕ) → i ≤ 262 → n ≤ 262 → j ≤ 262 → Fits w64 (i * n + j)
-wide-index-fits i n j p q r = record { fits = lt-of-le-of-lt (add-le-add (mul-le-mul p q) r) (lit< tt) }
-
 pub index-fits : (i n j : ℕ) → i ≤ 262 → n ≤ 256 → j ≤ 262 → Fits w64 (i * n + j)
-index-fits i n j p q r = wide-index-fits i n j p (omega arith) r
+index-fits i n j p q r = record { fits = lt-of-le-of-lt (add-le-add (mul-le-mul p q) r) (lit< tt) }
 
 pub run-ends : (i j n : ℕ) {width height long : ℕ} → i < height → j + n ≤ width → height * width ≤ long
     → i * width + j + n ≤ long

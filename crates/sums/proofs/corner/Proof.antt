@@ -1,10 +1,9 @@
 -- `sums::corner` meets its contract: the entry's row and column are below the psf's side, so nothing wraps.
-use Prim.Native.Nat.{_+_, _*_, _/_, _%_, _<_}
+use Prim.Native.Nat.{_+_, _*_, _/_, _%_, _≤_, _<_}
+use native.Mathlib.Nat.{mul-le-mul}
 use native.Mathlib.Omega.{arith}
 use borrow.Author.Needs.{needs}
 use Rattle.algebra.proofs.Grid.{row<, column<}
-use Rattle.algebra.proofs.Machine.{factors-fit}
-use Rattle.window.proofs.Rows.{wide-index-fits}
 use Rattle.sums.proofs.corner.Statement.{statement}
 use Rattle.sums.proofs.corner.Tie as tie
 
@@ -18,6 +17,10 @@ module _ (c : tie.Start) where
 
   entry-column : c .args .k % (2 * c .args .radius + 1) < 2 * c .args .radius + 1
   entry-column = column< (c .args .k) some
+
+  -- the first cell of its row in the widened plate
+  row-start : c .args .k / (2 * c .args .radius + 1) * (c .args .width + 2 * c .args .radius) ≤ 1572
+  row-start = mul-le-mul {n₂ = 6} {m₂ = 262} (omega (arith, entry-row)) (omega arith)
 
 mul-side : tie.Need-mul-side
 mul-side c = search needs
@@ -35,13 +38,13 @@ add-result : tie.Need-add-result
 add-result c = search needs
 
 mul-result-2 : tie.Need-mul-result-2
-mul-result-2 c = factors-fit 262 262 (omega (arith, entry-row c)) (omega arith) tt
+mul-result-2 c = omega (arith, row-start c)
 
 rem-result : tie.Need-rem-result
 rem-result c = search needs
 
 add-result-2 : tie.Need-add-result-2
-add-result-2 c = wide-index-fits _ _ _ (omega (arith, entry-row c)) (omega arith) (omega (arith, entry-column c))
+add-result-2 c = omega (arith, row-start c, entry-column c)
 
 returns : tie.Need-returns
 returns c = search needs

@@ -1,4 +1,5 @@
--- `sums::filter` meets its contract: the errors, spread by the first pass and gathered by the second, come to the table.
+-- `sums::filter` meets its contract: the errors, spread by the first pass and gathered by the second, come to the
+-- table.
 use mathlib.Core.Path.{_≡_, sym, _∙_, ap, subst}
 use mathlib.Core.List.{List, _++_}
 use Prim.Native.Nat.{ℕ, _+_, _*_, _≤_}

@@ -118,7 +118,8 @@ returns c =
     let a = c .before .before .before .before .before .before .args in
     let e : c .before .loop .k ≡ length (a .psf .now) = omega arith in
     c .before .loop .inv .1
-    ∙ ap (λ k. tabulate (a .height * a .width) (gatheredAt (a .width) (a .height) (a .radius) (a .psf .now) (a .g .now) k)) e
+    ∙ ap (λ k. tabulate (a .height * a .width)
+    (gatheredAt (a .width) (a .height) (a .radius) (a .psf .now) (a .g .now) k)) e
 
 pub gather-spec : {M : Type 1} → statement M
 gather-spec =

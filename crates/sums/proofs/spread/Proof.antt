@@ -19,7 +19,8 @@ use Rattle.sums.proofs.spread.Tie as tie
 
 abbrev Inv-loop : tie.InvT-loop
 Inv-loop width height radius psf e out₀ span k₀ out k =
-    (k ≤ length psf) × (out ≡ tabulate ((height + 2 * radius) * (width + 2 * radius)) (spreadAt width height radius psf e k))
+    (k ≤ length psf)
+    × (out ≡ tabulate ((height + 2 * radius) * (width + 2 * radius)) (spreadAt width height radius psf e k))
 
 abbrev μ-loop : tie.MeasureT-loop
 μ-loop width height radius psf e out₀ span k₀ out k = length psf - k
@@ -121,7 +122,8 @@ returns c =
     let a = c .before .before .before .before .before .before .args in
     let e : c .before .loop .k ≡ length (a .psf .now) = omega arith in
     c .before .loop .inv .1
-    ∙ ap (λ k. tabulate ((a .height + 2 * a .radius) * (a .width + 2 * a .radius)) (spreadAt (a .width) (a .height) (a .radius) (a .psf .now) (a .e .now) k)) e
+    ∙ ap (λ k. tabulate ((a .height + 2 * a .radius) * (a .width + 2 * a .radius))
+    (spreadAt (a .width) (a .height) (a .radius) (a .psf .now) (a .e .now) k)) e
 
 pub spread-spec : {M : Type 1} → statement M
 spread-spec =
