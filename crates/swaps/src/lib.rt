@@ -2,7 +2,7 @@
 // partner can lower the squared error are passed over. Where psf and gray are not read, they are there for the contract.
 ghost use mathlib.Core.Bool.{_&&_};
 ghost use mathlib.Core.Path.{_≡_};
-ghost use Prim.Native.Nat.{_^_, _≤_, _<_};
+ghost use Prim.Native.Nat.{ℕ, _+_, _^_, _≤_, _<_};
 ghost use lib.ListN.{length, getD};
 ghost use Rattle.model.specs.Error.{targetFor, cellAt, filteredErrors};
 ghost use Rattle.model.specs.Window.{HoldsKernel};
@@ -10,7 +10,7 @@ ghost use Rattle.model.specs.Refusal.{HalftoneFits};
 ghost use Rattle.model.specs.State.{LaterFits};
 ghost use Rattle.model.specs.Reference.{swap, reference, lowers};
 ghost use Rattle.model.specs.Partners.{biased, partner, worthAt, HoldsOffsets, HoldsWorths};
-ghost use Rattle.model.specs.Scan.{suits, Lowers, swaps, swapsAfter, visit, resultOf};
+ghost use Rattle.model.specs.Scan.{suits, Lowers, swaps, swapsAfter, sweepOf, visit, resultOf};
 ghost use Rattle.prune.specs.Grid.{GridFits};
 ghost use Rattle.model.specs.Calls.{swapScanned};
 use change::lower_swap;
@@ -18,6 +18,7 @@ use model::Measures;
 use model::ScanResult;
 use model::Stats;
 use partners::Cell;
+use partners::ahead;
 use partners::next;
 use partners::partner_cell;
 use partners::weigh_offsets;
@@ -25,6 +26,9 @@ use partners::within_reach;
 use prune::lay_worths;
 use prune::may_lower;
 use prune::side_of;
+use prune::swaps_clear;
+use toggles::least;
+use toggles::run_end;
 use trial::make_swap;
 use trial::weigh_swap;
 
@@ -60,6 +64,60 @@ fn lowering(
         return false;
     }
     lower_swap(dots, table, m, n, worth)
+}
+
+// How many cells from here on can be passed over, no swap being accepted at any: a run of up to 16 in this row, or 0 where
+// one might be. Cells before `tested` are in a run where one was found. With many partners the test of a run takes longer
+// than that of its cells, so it is made up to reach 2.
+fn clear_swaps(
+    measures: Measures,
+    psf: &[u8],
+    gray: &[u8],
+    c: &[i32],
+    downs: &[u8],
+    rights: &[u8],
+    worths: &[i32],
+    count: usize,
+    dots: &[u8],
+    table: &[i32],
+    at: Cell,
+    tested: usize,
+) -> usize
+    requires { ⌜ HalftoneFits (measures .width) (measures .height) (measures .radius) (now psf) (now gray) (now dots)
+        (length (now table)) ⌝ }
+    requires { ⌜ now table ≡ filteredErrors (targetFor measures (now psf) (now gray)) (now dots) ⌝ }
+    requires { ⌜ HoldsKernel (measures .radius) (now psf) (now c) ⌝ }
+    requires { ⌜ HoldsOffsets (measures .reach) (now downs) (now rights) count ⌝ }
+    requires { ⌜ HoldsWorths (measures .radius) (now c) (now downs) (now rights) count (now worths) ⌝ }
+    requires { ⌜ (at .row < measures .height) × (at .col < measures .width) ⌝ }
+    ensures { λ r. ⌜ (at .col + r ≤ measures .width) × ((k : ℕ) → k < r → (scan : ScanResult)
+        → visit (targetFor measures (now (psf .entry)) (now (gray .entry)))
+        (swaps (measures .width) (measures .height) (measures .reach))
+        (now (dots .entry)) scan (cellAt (measures .width) (at .row) (at .col) + k)
+        ≡ sweepOf (now (dots .entry)) scan) ⌝ }
+{
+    let m = at.row * measures.width + at.col;
+    if m < tested {
+        return 0;
+    }
+    if 2 < measures.reach {
+        return 0;
+    }
+    let n = least(16, measures.width - at.col);
+    if swaps_clear(
+        measures.width,
+        downs,
+        rights,
+        worths,
+        count,
+        dots,
+        table,
+        at,
+        n,
+    ) {
+        return n;
+    }
+    0
 }
 
 // Where the trials of a cell begin: at the first offset, or past the last where no partner can lower the squared error.
@@ -206,56 +264,76 @@ fn swap_by(
         changes: 0,
     };
     let mut at = Cell { row: 0, col: 0 };
+    let mut tested: usize = 0;
     while at.row < measures.height {
-        let mut k = first_trial(
+        let n = clear_swaps(
             measures,
             psf,
             gray,
             c,
             downs,
             rights,
+            worths,
             count,
-            side,
-            grid,
             dots,
             table,
             at,
+            tested,
         );
-        let found = 'partners: loop {
-            if count <= k {
-                break 'partners k;
-            }
-            if lowering(
+        if 0 < n {
+            at = ahead(measures.width, at, n);
+        } else {
+            tested = run_end(measures.width, at, tested);
+            let mut k = first_trial(
                 measures,
                 psf,
                 gray,
                 c,
+                downs,
+                rights,
+                count,
+                side,
+                grid,
                 dots,
                 table,
                 at,
-                downs[k],
-                rights[k],
-                worths[k],
-            ) {
-                break 'partners k;
-            }
-            k += 1;
-        };
-        scan = swap_cell(
-            measures,
-            psf,
-            gray,
-            c,
-            downs,
-            rights,
-            count,
-            dots,
-            table,
-            scan,
-            at,
-            found,
-        );
-        at = next(measures.width, at);
+            );
+            let found = 'partners: loop {
+                if count <= k {
+                    break 'partners k;
+                }
+                if lowering(
+                    measures,
+                    psf,
+                    gray,
+                    c,
+                    dots,
+                    table,
+                    at,
+                    downs[k],
+                    rights[k],
+                    worths[k],
+                ) {
+                    break 'partners k;
+                }
+                k += 1;
+            };
+            scan = swap_cell(
+                measures,
+                psf,
+                gray,
+                c,
+                downs,
+                rights,
+                count,
+                dots,
+                table,
+                scan,
+                at,
+                found,
+            );
+            at = next(measures.width, at);
+        }
     }
     scan
 }

@@ -23,7 +23,7 @@ use prune::any_toggles;
 use trial::make_toggle;
 use trial::weigh_toggle;
 
-fn least(a: usize, b: usize) -> usize
+pub fn least(a: usize, b: usize) -> usize
     ensures { λ r. ⌜ r ≡ min a b ⌝ }
 {
     if a < b { a } else { b }
@@ -108,7 +108,7 @@ fn clear_run(
 }
 
 // the end of the run that was tested
-fn run_end(width: usize, at: Cell, tested: usize) -> usize
+pub fn run_end(width: usize, at: Cell, tested: usize) -> usize
     requires { ⌜ (at .row < 256) × (at .col < width) × (width ≤ 256) ⌝ }
 {
     let m = at.row * width + at.col;
