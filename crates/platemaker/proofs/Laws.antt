@@ -1,102 +1,21 @@
--- How an answer is laid out: numbers into a slice, and a call's outcome against what the functions answer and leave.
-use mathlib.Core.List.{List, [], _∷_, _++_, append-nil}
+-- How an answer is laid out: a call's outcome against what the functions answer and leave.
+use mathlib.Core.List.{List, _++_}
 use mathlib.Core.Path.{_≡_, refl, sym, _∙_, ap, subst}
-use Prim.Native.Nat.{ℕ, _+_, _<_, _^_}
-use native.Mathlib.Omega.{arith}
+use Prim.Native.Nat.{ℕ, _+_}
 use borrow.Author.Tests.{eq-eqb, ne-eqb, eqb-true, not-false}
 use lib.Dec.{eqb}
-use lib.IntN.{ℤ, pos}
-use lib.Signed.{mag}
-use lib.ListN.{length, getD, drop-of-length-le}
-use lib.Seq.{sets, sets-eq}
-use mir.Facts.{toZ-ofZ}
-use mir.Syntax.{w64}
-use mir.Val.{toZ, ofZ, hbits}
+use lib.IntN.{ℤ}
+use lib.ListN.{length}
 use Rattle.model.specs.declared.Measures.{Measures}
-use Rattle.model.specs.declared.Stats.{Stats}
-use Rattle.model.specs.Refusal.{firstOf}
 use Rattle.model.specs.Calls.{Reply, Outcome, Buffers}
-use Rattle.model.specs.Interface.{status, after, numbers, countOf, statsIn}
+use Rattle.model.specs.Interface.{status, after}
 use Rattle.model.specs.Interface.{badMeasures, badStatsLength, sliceRefusal, overStats}
 use Rattle.model.specs.Interface.{sheetStatus, offsetAfter, sheetAfter, measureNumbers, readOver}
 use Rattle.model.specs.SheetCalls.{readCall}
 use Rattle.model.specs.SheetCalls as Sheet
-use Rattle.platemaker.specs.Storable.{Holds}
-use Rattle.model.proofs.Refusal.{none, by-first, by-second}
+use Rattle.numbers.specs.Storable.{Holds}
+use Rattle.model.proofs.Refusal.{none}
 use Rattle.model.proofs.Calls.{is-refused, is-done}
-
--- ---- numbers into a slice
--- a signed number, held as bits, is itself
-pub held-whole : {z : ℤ} → mag z < 2 ^ hbits w64 → toZ w64 (ofZ w64 z) ≡ z
-held-whole h = toZ-ofZ (record { sfits = h })
-
--- as many numbers as there are
-pub all-stored : {A : Type 0} (vs l : List A) → length l ≡ length vs → sets l 0 vs ≡ vs
-all-stored vs l e =
-    sets-eq vs l 0 (omega (arith, e))
-    ∙ ap (λ r. vs ++ r) (drop-of-length-le l {i = 0 + length vs} (omega (arith, e)))
-    ∙ append-nil vs
-
-module _ (l : List ℤ) (s : Stats) {start error dots on off swaps : ℤ} where
-  -- a ledger
-  pub numbers-stored : length l ≡ 6
-      → start ≡ s .«start_error»
-      → error ≡ s .error
-      → dots ≡ pos (s .«start_dots»)
-      → on ≡ pos (s .on)
-      → off ≡ pos (s .off)
-      → swaps ≡ pos (s .swaps)
-      → sets l 0 (start ∷ error ∷ dots ∷ on ∷ off ∷ swaps ∷ []) ≡ numbers s
-  numbers-stored e a b c d f g = rw (a, b, c, d, f, g) (all-stored (numbers s) l e)
-
--- and out of it: the number at an index, as it is held
-module _ (l : List ℤ) where
-  abbrev at : ℕ → ℤ
-  at i = getD l i (pos 0)
-
-  abbrev Whole : ℕ → Type 0
-  Whole i = mag (at i) < 2 ^ hbits w64
-
-  abbrev held : ℕ → ℤ
-  held i = toZ w64 (ofZ w64 (at i))
-
-  whole : (i : ℕ) → Whole i → held i ≡ at i
-  whole i h = held-whole h
-
-  pub stats-read : Whole 0 → Whole 1 → Whole 2 → Whole 3 → Whole 4 → Whole 5 → {dots on off swaps : ℕ}
-      → dots ≡ countOf (held 2)
-      → on ≡ countOf (held 3)
-      → off ≡ countOf (held 4)
-      → swaps ≡ countOf (held 5)
-      → _≡_ {A = Stats} (record {
-        «start_error» = held 0;
-        error = held 1;
-        «start_dots» = dots;
-        on = on;
-        off = off;
-        swaps = swaps;
-      }) (statsIn l)
-  unfolding statsIn
-  stats-read f0 f1 f2 f3 f4 f5 a b c d =
-      rw (a, b, c, d, whole 0 f0, whole 1 f1, whole 2 f2, whole 3 f3, whole 4 f4, whole 5 f5) refl
-
--- ---- the judge of a slice that is to hold a ledger
-module _ (m : Measures) (stats : List ℤ) {x : ℕ} (e : x ≡ firstOf (badMeasures m)) where
-  pub measures-refused : (x ≡ 0 → ⊥) → x ≡ sliceRefusal m stats
-  unfolding sliceRefusal
-  measures-refused = by-first (badMeasures m) (badStatsLength stats) tt e
-
-  pub length-refused : x ≡ 0 → (length stats ≡ 6 → ⊥) → 5 ≡ sliceRefusal m stats
-  unfolding sliceRefusal
-  length-refused z h =
-      let drawn : 5 ≡ firstOf (badStatsLength stats) = rw (ne-eqb (length stats) 6 h) refl in
-      by-second (badMeasures m) (badStatsLength stats) tt e z drawn
-
-  pub none-refused : x ≡ 0 → length stats ≡ 6 → 0 ≡ sliceRefusal m stats
-  unfolding sliceRefusal
-  none-refused z h =
-      let drawn : 0 ≡ firstOf (badStatsLength stats) = rw (eq-eqb (length stats) 6 h) refl in
-      by-second (badMeasures m) (badStatsLength stats) tt e z drawn
 
 -- a slice that is taken holds six
 pub slice-six : (m : Measures) (stats : List ℤ) {n : ℕ} → n ≡ sliceRefusal m stats → n ≡ 0 → length stats ≡ 6

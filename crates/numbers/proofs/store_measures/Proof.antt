@@ -1,11 +1,11 @@
--- `platemaker::store_measures` meets its contract: five stores fill a slice of five numbers.
+-- `numbers::store_measures` meets its contract: five stores fill a slice of five numbers.
 use native.Mathlib.Omega.{arith}
 use borrow.Author.Needs.{needs}
 use lib.ListN.{length-set}
 use Rattle.model.specs.Interface.{measureNumbers}
-use Rattle.platemaker.proofs.Laws.{all-stored}
-use Rattle.platemaker.proofs.store_measures.Statement.{statement}
-use Rattle.platemaker.proofs.store_measures.Tie as tie
+use Rattle.numbers.proofs.Laws.{all-stored}
+use Rattle.numbers.proofs.store_measures.Statement.{statement}
+use Rattle.numbers.proofs.store_measures.Tie as tie
 
 slice-write-out : tie.Need-slice-write-out
 slice-write-out c = search needs

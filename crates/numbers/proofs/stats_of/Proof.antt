@@ -1,8 +1,8 @@
--- `platemaker::stats_of` meets its contract: each figure is read from its place.
+-- `numbers::stats_of` meets its contract: each figure is read from its place.
 use borrow.Author.Needs.{needs}
-use Rattle.platemaker.proofs.Laws.{stats-read}
-use Rattle.platemaker.proofs.stats_of.Statement.{statement}
-use Rattle.platemaker.proofs.stats_of.Tie as tie
+use Rattle.numbers.proofs.Laws.{stats-read}
+use Rattle.numbers.proofs.stats_of.Statement.{statement}
+use Rattle.numbers.proofs.stats_of.Tie as tie
 
 shared-slice-copy-out-t3 : tie.Need-shared-slice-copy-out-t3
 shared-slice-copy-out-t3 c = search needs

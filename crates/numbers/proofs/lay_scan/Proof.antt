@@ -1,8 +1,8 @@
--- `platemaker::lay_scan` meets its contract, case by case of the answer.
+-- `numbers::lay_scan` meets its contract, case by case of the answer.
 use mathlib.Core.Path.{refl}
 use borrow.Author.Needs.{needs}
-use Rattle.platemaker.proofs.lay_scan.Statement.{statement}
-use Rattle.platemaker.proofs.lay_scan.Tie as tie
+use Rattle.numbers.proofs.lay_scan.Statement.{statement}
+use Rattle.numbers.proofs.lay_scan.Tie as tie
 
 enum-known-answer : tie.Need-enum-known-answer
 enum-known-answer c = search needs

@@ -1,12 +1,12 @@
--- `platemaker::store_stats` meets its contract: six stores fill a slice of six numbers, and each count fits.
+-- `numbers::store_stats` meets its contract: six stores fill a slice of six numbers, and each count fits.
 use native.Mathlib.Omega.{arith}
 use borrow.Author.Needs.{needs}
 use lib.ListN.{length-set}
 use mir.Facts.{toZ-pos}
 use mir.Syntax.{w64}
-use Rattle.platemaker.proofs.Laws.{held-whole, numbers-stored}
-use Rattle.platemaker.proofs.store_stats.Statement.{statement}
-use Rattle.platemaker.proofs.store_stats.Tie as tie
+use Rattle.numbers.proofs.Laws.{held-whole, numbers-stored}
+use Rattle.numbers.proofs.store_stats.Statement.{statement}
+use Rattle.numbers.proofs.store_stats.Tie as tie
 
 cast-start-dots : tie.Need-cast-start-dots
 cast-start-dots c = search needs

@@ -1,8 +1,8 @@
--- `platemaker::judge_stats` meets its contract: the measures are judged first, then the length.
+-- `numbers::judge_stats` meets its contract: the measures are judged first, then the length.
 use borrow.Author.Needs.{needs}
-use Rattle.platemaker.proofs.Laws.{measures-refused, length-refused, none-refused}
-use Rattle.platemaker.proofs.judge_stats.Statement.{statement}
-use Rattle.platemaker.proofs.judge_stats.Tie as tie
+use Rattle.numbers.proofs.Laws.{measures-refused, length-refused, none-refused}
+use Rattle.numbers.proofs.judge_stats.Statement.{statement}
+use Rattle.numbers.proofs.judge_stats.Tie as tie
 
 judge-all-measures-requires : tie.Need-judge-all-measures-requires
 judge-all-measures-requires c κs = search needs

@@ -1,4 +1,4 @@
--- `platemaker::count_of` meets its contract, by the number's sign.
+-- `numbers::count_of` meets its contract, by the number's sign.
 use mathlib.Core.Path.{_≡_, refl}
 use mathlib.Core.Bool.{Bool, true, false}
 use Prim.Native.Nat.{ℕ}
@@ -12,8 +12,8 @@ use mir.Facts.{toZ-ofZ}
 use mir.Syntax.{w64}
 use mir.Val.{Fits, SFits}
 use Rattle.model.specs.Interface.{countOf}
-use Rattle.platemaker.proofs.count_of.Statement.{statement}
-use Rattle.platemaker.proofs.count_of.Tie as tie
+use Rattle.numbers.proofs.count_of.Statement.{statement}
+use Rattle.numbers.proofs.count_of.Tie as tie
 
 below : (z : ℤ) → ltZ z (pos 0) ≡ true → 18446744073709551615 ≡ countOf z
 below (pos n) e = absurd (omega (arith, ltb-true n 0 e))

@@ -1,9 +1,9 @@
--- `platemaker::lay_attempt` meets its contract, case by case of the answer.
+-- `numbers::lay_attempt` meets its contract, case by case of the answer.
 use mathlib.Core.Path.{refl}
 use borrow.Author.Needs.{needs}
-use Rattle.platemaker.proofs.Laws.{held-whole}
-use Rattle.platemaker.proofs.lay_attempt.Statement.{statement}
-use Rattle.platemaker.proofs.lay_attempt.Tie as tie
+use Rattle.numbers.proofs.Laws.{held-whole}
+use Rattle.numbers.proofs.lay_attempt.Statement.{statement}
+use Rattle.numbers.proofs.lay_attempt.Tie as tie
 
 enum-known-answer : tie.Need-enum-known-answer
 enum-known-answer c = search needs
