@@ -1,7 +1,9 @@
 #!/usr/bin/env python3
 """Prints the sheet of a relief with lettering: two knolls and a ditch under a name, lit from the upper left. It made plot.sheet."""
+from math import exp
+
 from glyphs import pixels
-from math import exp, hypot
+from shading import shade
 
 WIDTH, HEIGHT = 96, 42
 NAME, SCALE = "PLOT 12", 2
@@ -15,16 +17,8 @@ def height(x, y):
     return knoll + lower + ditch
 
 
-def shade(x, y):
-    """0 is paper, 255 black: the slope that faces the light is paler."""
-    east = height(x + 0.5, y) - height(x - 0.5, y)
-    south = height(x, y + 0.5) - height(x, y - 0.5)
-    light = (1.0 - 0.7 * (-east - south)) / (1.3 * hypot(1.0, hypot(east, south)))
-    return max(0, min(255, round(255 * (1.0 - light))))
-
-
 def main():
-    gray = [[shade(x, y) for x in range(WIDTH)] for y in range(HEIGHT)]
+    gray = [[shade(height, x, y, 0.7, 1.3) for x in range(WIDTH)] for y in range(HEIGHT)]
     letters = pixels(NAME, SCALE)
     top, left = (HEIGHT - len(letters)) // 2, (WIDTH - len(letters[0])) // 2
     for y, row in enumerate(letters):
