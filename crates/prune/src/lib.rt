@@ -1,6 +1,6 @@
-// Quick tests by the table, without a branch in their inner loops: of a run of cells, whether a toggle is accepted in
-// it; and of all partners of a cell, row by row of those within reach, whether a swap with one might lower the squared
-// error. Where none does, the trials in order can be left out.
+// Quick tests by the table, without a branch in their inner loops: of a run of cells, whether a toggle or a swap is
+// accepted in it; and of all partners of a cell, row by row of those within reach, whether a swap with one might lower
+// the squared error. Where none does, the trials in order can be left out.
 ghost use mathlib.Core.Bool.{true, false};
 ghost use mathlib.Core.Path.{_≡_};
 ghost use Prim.Native.Nat.{ℕ, _+_, _*_, _<_, _≤_};
@@ -40,7 +40,7 @@ pub fn any_toggles(peak: i32, dots: &[u8], table: &[i32], from: usize, n: usize)
 }
 
 // whether a swap of one of the n cells from `from` on with the cell as far from `to` lowers the squared error
-pub fn any_swaps(dots: &[u8], table: &[i32], worth: i32, from: usize, to: usize, n: usize) -> bool
+fn any_swaps(dots: &[u8], table: &[i32], worth: i32, from: usize, to: usize, n: usize) -> bool
     requires { ⌜ (from + n ≤ length (now dots)) × (to + n ≤ length (now dots)) ⌝ }
     requires { ⌜ (length (now table) ≡ length (now dots)) × Small mostFiltered (now table) ⌝ }
     requires { ⌜ (natAbs worth ≤ 534773760) × (n ≤ 65536) ⌝ }
