@@ -161,5 +161,5 @@ fn main() {
     carried_on();
     swaps();
     input::run();
-    state::run();
+    judge_state::run();
 }

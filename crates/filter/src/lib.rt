@@ -2,8 +2,8 @@
 // judges what it is handed, and only then works; a refusal changes nothing.
 ghost use mathlib.Core.Path.{_≡_};
 ghost use Rattle.model.specs.Calls.{filled, valued, autocorrelationCall, filteredErrorCall, squaredErrorCall};
-use judge::judge_autocorrelation;
-use judge::judge_halftone;
+use judge_input::judge_autocorrelation;
+use judge_input::judge_halftone;
 use model::Filled;
 use model::SquaredError;
 
@@ -16,7 +16,7 @@ pub fn autocorrelation(radius: usize, psf: &[u8], out: &mut [i32]) -> Filled
     if number != 0 {
         return Filled::Refused(number);
     }
-    sums::autocorrelate(radius, psf, out);
+    filter_sums::autocorrelate(radius, psf, out);
     Filled::Done
 }
 
@@ -39,7 +39,7 @@ pub fn filtered_error(
     if number != 0 {
         return Filled::Refused(number);
     }
-    sums::filter(width, height, radius, psf, gray, dots, table);
+    filter_sums::filter(width, height, radius, psf, gray, dots, table);
     Filled::Done
 }
 
@@ -60,6 +60,6 @@ pub fn squared_error(
         return SquaredError::Refused(number);
     }
     let mut table = [0i32; 65536];
-    let error = sums::square(width, height, radius, psf, gray, dots, &mut table);
+    let error = filter_sums::square(width, height, radius, psf, gray, dots, &mut table);
     SquaredError::Value(error)
 }

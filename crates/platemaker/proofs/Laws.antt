@@ -13,7 +13,7 @@ use Rattle.model.specs.Interface.{badMeasures, badStatsLength, sliceRefusal, ov
 use Rattle.model.specs.Interface.{sheetStatus, offsetAfter, sheetAfter, measureNumbers, readOver}
 use Rattle.model.specs.SheetCalls.{readCall}
 use Rattle.model.specs.SheetCalls as Sheet
-use Rattle.numbers.specs.Storable.{Holds}
+use Rattle.platemaker_numbers.specs.Storable.{Holds}
 use Rattle.model.proofs.Refusal.{none}
 use Rattle.model.proofs.Calls.{is-refused, is-done}
 

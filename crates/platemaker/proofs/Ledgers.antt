@@ -21,7 +21,7 @@ use Rattle.model.proofs.Halftone.{few-cells}
 use Rattle.model.proofs.Later.{later-enters, toggle-enters, swap-enters}
 use Rattle.model.proofs.Lists.{call-later}
 use Rattle.model.proofs.Start.{start-later}
-use Rattle.numbers.specs.Storable.{Storable, Holds, TriedStorable}
+use Rattle.platemaker_numbers.specs.Storable.{Storable, Holds, TriedStorable}
 
 -- a ledger that later calls accept
 module _ (m : Measures) (psf gray dots : List ℕ) (table : List ℤ) (s : Stats) where

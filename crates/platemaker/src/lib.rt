@@ -13,13 +13,13 @@ use model::Measures;
 use model::Reading;
 use model::SquaredError;
 use model::Writing;
-use numbers::judge_stats;
-use numbers::lay_attempt;
-use numbers::lay_converged;
-use numbers::lay_scan;
-use numbers::lay_start;
-use numbers::stats_of;
-use numbers::store_measures;
+use platemaker_numbers::judge_stats;
+use platemaker_numbers::lay_attempt;
+use platemaker_numbers::lay_converged;
+use platemaker_numbers::lay_scan;
+use platemaker_numbers::lay_start;
+use platemaker_numbers::stats_of;
+use platemaker_numbers::store_measures;
 
 // The autocorrelation.
 #[no_mangle]

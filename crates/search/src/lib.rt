@@ -4,24 +4,24 @@ ghost use mathlib.Core.Path.{_≡_};
 ghost use Rattle.model.specs.State.{laterRefusal, toggleRefusal, swapRefusal};
 ghost use Rattle.model.specs.Calls.{attempted, scanned, converged};
 ghost use Rattle.model.specs.Calls.{toggleCall, swapCall, toggleScanCall, swapScanCall, convergeCall};
-use cells::judge_cell;
-use cells::judge_cells;
-use cells::judge_like;
-use cells::judge_pair;
-use judge::first;
-use judge::judge_later;
+use filter_sums::kernel;
+use judge_cells::judge_cell;
+use judge_cells::judge_cells;
+use judge_cells::judge_like;
+use judge_cells::judge_pair;
+use judge_input::first;
+use judge_input::judge_later;
+use judge_state::judge_state;
 use model::Attempt;
 use model::Converged;
 use model::Measures;
 use model::Scanned;
 use model::Stats;
-use scans::come_to_rest;
-use state::judge_state;
-use sums::kernel;
-use swaps::swap_all;
-use toggles::toggle_all;
-use trial::swap;
-use trial::toggle;
+use search_converge::come_to_rest;
+use search_swaps::swap_all;
+use search_toggles::toggle_all;
+use search_trial::swap;
+use search_trial::toggle;
 
 // the whole list of a toggle
 fn judge_toggle(

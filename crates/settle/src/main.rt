@@ -1,12 +1,12 @@
 // The program `settle`: reads a sheet from standard input, lets it come to rest, and prints it with the two lines of
-// the ledger, or prints a refusal. What it prints for an input is `program::run`; here is the reading and the writing.
+// the ledger, or prints a refusal. What it prints for an input is `settle_program::run`; here is the reading and the writing.
 ghost use mathlib.Core.Path.{_≡_};
 ghost use Prim.Native.Nat.{_≤_, min};
 ghost use lib.ListN.{length};
-use layout::put_bytes;
 use libc::STDERR_FILENO;
 use libc::STDIN_FILENO;
 use libc::STDOUT_FILENO;
+use sheet_write::put_bytes;
 
 fn least(a: usize, b: usize) -> usize
     ensures { λ r. ⌜ r ≡ min a b ⌝ }
@@ -45,7 +45,7 @@ fn main() {
     }
     let n = io::count(got, &input);
     let mut out = [0u8; 40960];
-    let k = program::run(&input[..n], &mut out);
+    let k = settle_program::run(&input[..n], &mut out);
     if !io::write_all(STDOUT_FILENO, &out[..k]) {
         io::write_all(STDERR_FILENO, b"settle: the output could not be written\n");
     }

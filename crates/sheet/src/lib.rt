@@ -1,16 +1,16 @@
 // The public calls that read and write a sheet.
 ghost use mathlib.Core.Path.{_≡_};
 ghost use Rattle.model.specs.SheetCalls.{readingOf, readCall, writingOf, writeCall};
-use blocks::has_room;
-use blocks::judge_body;
-use blocks::read_head;
-use blocks::store_body;
-use judge::judge_sheet;
-use layout::put_sheet;
-use layout::sheet_length;
+use judge_input::judge_sheet;
 use model::Measures;
 use model::Reading;
 use model::Writing;
+use sheet_read::has_room;
+use sheet_read::judge_body;
+use sheet_read::read_head;
+use sheet_read::store_body;
+use sheet_write::put_sheet;
+use sheet_write::sheet_length;
 
 // Reads a sheet into buffers that are long enough. The whole sheet is judged before anything is stored.
 pub fn read_sheet(bytes: &[u8], psf: &mut [u8], gray: &mut [u8], dots: &mut [u8]) -> Reading

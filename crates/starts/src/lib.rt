@@ -6,13 +6,13 @@ ghost use Rattle.model.specs.Error.{targetOf, filteredErrors};
 ghost use Rattle.model.specs.Refusal.{HalftoneFits};
 ghost use Rattle.model.specs.State.{freshStats};
 ghost use Rattle.model.specs.Calls.{started, startCall};
-use judge::judge_start;
-use judge::sum;
+use filter_sums::filter_and_square;
+use judge_input::judge_start;
+use judge_input::sum;
 use model::Measures;
 use model::Started;
 use model::Stats;
-use screen::start_dots;
-use sums::filter_and_square;
+use starts_screen::start_dots;
 
 // the table of judged dots, and a fresh ledger
 fn begin(

@@ -3,7 +3,7 @@ use mathlib.Core.Path.{sym, _∙_, ap}
 use borrow.Author.Needs.{needs}
 use Rattle.model.specs.Interface.{status, after}
 use Rattle.model.specs.Calls.{valued}
-use Rattle.numbers.proofs.Laws.{held-whole}
+use Rattle.platemaker_numbers.proofs.Laws.{held-whole}
 use Rattle.platemaker.proofs.pm_squared_error.Statement.{statement}
 use Rattle.platemaker.proofs.pm_squared_error.Tie as tie
 

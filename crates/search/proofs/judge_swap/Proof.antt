@@ -13,7 +13,7 @@ use Rattle.model.specs.Refusal.{Refusal, firstOf, badCells, badPair, HalftoneFi
 use Rattle.model.specs.State.{badTable, wrongStats, badLike, inputRefusals, stateRefusals, swapRefusal}
 use Rattle.model.proofs.Refusal.{none, by-first, by-either, by-second}
 use Rattle.model.proofs.Later.{cells-inside, input-fits}
-use Rattle.window.proofs.Rows.{index-fits}
+use Rattle.filter_window.proofs.Rows.{index-fits}
 use Rattle.search.proofs.judge_swap.Statement.{statement}
 use Rattle.search.proofs.judge_swap.Tie as tie
 

@@ -1,0 +1,37 @@
+-- `judge_input::judge_later` meets its contract: 1 to 6, and then 7.
+use mathlib.Core.List.{List, [], _∷_}
+use borrow.Author.Needs.{needs}
+use lib.ListN.{length}
+use Rattle.model.specs.Refusal.{Refusal, handed, badDot}
+use Rattle.model.proofs.Refusal.{by-first, by-second}
+use Rattle.judge_input.proofs.judge_later.Statement.{statement}
+use Rattle.judge_input.proofs.judge_later.Tie as tie
+
+module _ (s : tie.Start) where
+  abbrev input : List Refusal
+  input =
+      handed (s .args .measures) (s .args .psf .now)
+      (s .args .gray ∷ length (s .args .dots .now) ∷ s .args .table ∷ [])
+
+  abbrev bytes : List Refusal
+  bytes = badDot (s .args .dots .now) ∷ []
+
+judge-handed-requires : tie.Need-judge-handed-requires
+judge-handed-requires c κs = search needs
+
+returns : tie.Need-returns
+returns c =
+    let s = c .before .before .before .before in
+    by-first (input s) (bytes s) tt (c .before .judge-handed .ensures) (c .if1 .taken)
+
+judge-dots-requires : tie.Need-judge-dots-requires
+judge-dots-requires c κs = search needs
+
+returns-2 : tie.Need-returns-2
+returns-2 c =
+    let s = c .before .before .before .before .before in
+    by-second (input s) (bytes s) tt (c .before .before .judge-handed .ensures) (c .before .if1 .left)
+    (c .judge-dots .ensures)
+
+pub judge-later-spec : {M : Type 1} → statement M
+judge-later-spec = tie.close (tie.spec judge-handed-requires returns judge-dots-requires returns-2)

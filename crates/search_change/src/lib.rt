@@ -1,0 +1,175 @@
+// One change of a halftone: what a toggle and a swap would add to the squared error, decided by the table in a few
+// operations; and making it, by which a dot, the table and the ledger change together.
+ghost use mathlib.Core.Bool.{_&&_, not};
+ghost use mathlib.Core.Path.{_≡_};
+ghost use Prim.Native.Nat.{_+_, _*_, _^_, _<_, _≤_};
+ghost use lib.Dec.{eqb};
+ghost use lib.IntN.{pos, natAbs, _+ℤ_, _-ℤ_, _*ℤ_};
+ghost use lib.ListN.{length, getD};
+ghost use lib.Signed.{ltZ};
+ghost use Rattle.model.specs.Basic.{pick, AtMost, squareAt};
+ghost use Rattle.model.specs.Change.{signOf, sign, toggleSum, swapSum, flipped, raised, counted};
+ghost use Rattle.model.specs.Error.{cellAt, mostSquared};
+ghost use Rattle.model.specs.Reference.{onCount, offCount, swapCount};
+ghost use Rattle.model.specs.Window.{addWindow, Small, mostFiltered};
+use filter_window::add_window;
+use model::Stats;
+
+// a value times s of a cell whose dot byte is `dot`
+pub fn signed(dot: u8, value: i32) -> i32
+    requires { ⌜ natAbs value ≤ 2 * mostFiltered ⌝ }
+    ensures { λ r. ⌜ r ≡ signOf dot *ℤ value ⌝ }
+    ensures { λ r. ⌜ natAbs r ≡ natAbs value ⌝ }
+{
+    if dot == 0 { value } else { -value }
+}
+
+// what a toggle of the cell m adds: 255 × (2 × s(m) × T(m) + 255 × P)
+pub fn toggle_change(peak: i32, dots: &[u8], table: &[i32], m: usize) -> i64
+    requires { ⌜ (m < length (now dots)) × (m < length (now table)) ⌝ }
+    requires { ⌜ (natAbs peak ≤ 1048576) × Small mostFiltered (now table) ⌝ }
+    ensures { λ r. ⌜ r ≡ toggleSum 255 peak (sign (now (dots .entry)) m) (getD (now (table .entry)) m (pos 0)) ⌝ }
+    ensures { λ r. ⌜ natAbs r ≤ 204550963200 ⌝ }
+{
+    255 * ((2 * signed(dots[m], table[m]) + 255 * peak) as i64)
+}
+
+// c at the offset from (row2, col2) to (row, col), 0 past 2r
+pub fn between(radius: usize, c: &[i32], row: usize, col: usize, row2: usize, col2: usize) -> i32
+    requires { ⌜ (radius ≤ 3) × ((4 * radius + 1) * (4 * radius + 1) ≤ length (now c)) ⌝ }
+    requires { ⌜ (row < 256) × (col < 256) × (row2 < 256) × (col2 < 256) ⌝ }
+    ensures { λ r. ⌜ r ≡ squareAt (pos 0) (2 * radius) (now (c .entry)) (pos row -ℤ pos row2) (pos col -ℤ pos col2) ⌝ }
+{
+    let side = 4 * radius + 1;
+    let bottom = row + 2 * radius;
+    let right = col + 2 * radius;
+    if bottom < row2 {
+        return 0;
+    }
+    if right < col2 {
+        return 0;
+    }
+    let y = bottom - row2;
+    let x = right - col2;
+    if side <= y {
+        return 0;
+    }
+    if side <= x {
+        return 0;
+    }
+    c[y * side + x]
+}
+
+// P: c at the offset (0, 0)
+pub fn peak(radius: usize, c: &[i32]) -> i32
+    requires { ⌜ (radius ≤ 3) × ((4 * radius + 1) * (4 * radius + 1) ≤ length (now c)) ⌝ }
+    ensures { λ r. ⌜ r ≡ squareAt (pos 0) (2 * radius) (now (c .entry)) (pos 0) (pos 0) ⌝ }
+{
+    between(radius, c, 0, 0, 0, 0)
+}
+
+// s(m) × (T(m) - T(n))
+pub fn difference(dots: &[u8], table: &[i32], m: usize, n: usize) -> i32
+    requires { ⌜ (m < length (now dots)) × (m < length (now table)) × (n < length (now table)) ⌝ }
+    requires { ⌜ Small mostFiltered (now table) ⌝ }
+    ensures { λ r. ⌜ r ≡ sign (now (dots .entry)) m
+        *ℤ (getD (now (table .entry)) m (pos 0) -ℤ getD (now (table .entry)) n (pos 0)) ⌝ }
+    ensures { λ r. ⌜ natAbs r ≤ 2 * mostFiltered ⌝ }
+{
+    signed(dots[m], table[m] - table[n])
+}
+
+// what a swap of the cells m and n adds: 510 × (s(m) × (T(m) - T(n)) + 255 × (P - c(m - n)))
+pub fn swap_change(peak: i32, apart: i32, dots: &[u8], table: &[i32], m: usize, n: usize) -> i64
+    requires { ⌜ (m < length (now dots)) × (m < length (now table)) × (n < length (now table)) ⌝ }
+    requires { ⌜ (natAbs peak ≤ 1048576) × (natAbs apart ≤ 1048576) × Small mostFiltered (now table) ⌝ }
+    ensures { λ r. ⌜ r ≡ swapSum 255 peak apart (sign (now (dots .entry)) m)
+        (getD (now (table .entry)) m (pos 0)) (getD (now (table .entry)) n (pos 0)) ⌝ }
+    ensures { λ r. ⌜ natAbs r ≤ 545469235200 ⌝ }
+{
+    510 * ((difference(dots, table, m, n) + 255 * (peak - apart)) as i64)
+}
+
+// whether m and n have unlike dots and their swap lowers the squared error; `worth` is 255 × (P - c(m - n)). The sum is
+// tested first: it seldom is below 0, while dots are as often unlike as alike.
+pub fn lower_swap(dots: &[u8], table: &[i32], m: usize, n: usize, worth: i32) -> bool
+    requires { ⌜ (m < length (now dots)) × (n < length (now dots)) × (length (now table) ≡ length (now dots)) ⌝ }
+    requires { ⌜ Small mostFiltered (now table) × (natAbs worth ≤ 534773760) ⌝ }
+    ensures { λ r. ⌜ r ≡ (not (eqb (getD (now (dots .entry)) m 0) (getD (now (dots .entry)) n 0))
+        && ltZ (sign (now (dots .entry)) m
+        *ℤ (getD (now (table .entry)) m (pos 0) -ℤ getD (now (table .entry)) n (pos 0)) +ℤ worth) (pos 0)) ⌝ }
+{
+    if difference(dots, table, m, n) + worth < 0 {
+        return dots[m] != dots[n];
+    }
+    false
+}
+
+// whether a change is accepted: exactly when it is below 0
+pub fn lowers(change: i64) -> bool
+    ensures { λ r. ⌜ r ≡ ltZ change (pos 0) ⌝ }
+{
+    change < 0
+}
+
+// The dot of a cell is turned, and the table follows: each T(q) gains 255 × s(m) × c(q - m).
+pub fn flip(
+    width: usize,
+    height: usize,
+    radius: usize,
+    c: &[i32],
+    dots: &mut [u8],
+    table: &mut [i32],
+    row: usize,
+    col: usize,
+)
+    requires { ⌜ (row < height) × (col < width) × (width ≤ 256) × (height ≤ 256) × (radius ≤ 3) ⌝ }
+    requires { ⌜ ((4 * radius + 1) * (4 * radius + 1) ≤ length (now c)) × Small 1048576 (now c) ⌝ }
+    requires { ⌜ (length (now dots) ≡ height * width) × (length (now table) ≡ height * width) ⌝ }
+    requires { ⌜ AtMost 1 (now dots) × Small mostFiltered (now table) ⌝ }
+    ensures { λ _. ⌜ now (dots .exit) ≡ flipped (now (dots .entry)) (cellAt width row col) ⌝ }
+    ensures { λ _. ⌜ now (table .exit) ≡ addWindow width (2 * radius) (now (c .entry))
+        (pos 255 *ℤ sign (now (dots .entry)) (cellAt width row col)) row col (now (table .entry)) ⌝ }
+{
+    let m = row * width + col;
+    let dot = dots[m];
+    dots[m] = 1 - dot;
+    let amount = signed(dot, 255);
+    add_window(table, width, height, row, col, 2 * radius, c, amount);
+}
+
+// the ledger with a change: E now gains it, and each count rises by so many
+fn count(stats: Stats, change: i64, on: u64, off: u64, swaps: u64) -> Stats
+    requires { ⌜ (natAbs (stats .error) ≤ mostSquared) × (natAbs change ≤ 2 ^ 50) ⌝ }
+    requires { ⌜ (stats .on + on < 2 ^ 64) × (stats .off + off < 2 ^ 64) × (stats .swaps + swaps < 2 ^ 64) ⌝ }
+    ensures { λ r. ⌜ r ≡ raised stats change on off swaps ⌝ }
+{
+    Stats {
+        start_error: stats.start_error,
+        error: stats.error + change,
+        start_dots: stats.start_dots,
+        on: stats.on + on,
+        off: stats.off + off,
+        swaps: stats.swaps + swaps,
+    }
+}
+
+// the ledger after an accepted toggle of a cell whose dot byte was `dot`
+pub fn count_toggle(stats: Stats, change: i64, dot: u8) -> Stats
+    requires { ⌜ (natAbs (stats .error) ≤ mostSquared) × (natAbs change ≤ 2 ^ 50) ⌝ }
+    requires { ⌜ (stats .on ≤ 2 ^ 44) × (stats .off ≤ 2 ^ 44) ⌝ }
+    ensures { λ r. ⌜ r ≡ counted stats change (pick (eqb dot 0) onCount offCount) ⌝ }
+{
+    if dot == 0 {
+        return count(stats, change, 1, 0, 0);
+    }
+    count(stats, change, 0, 1, 0)
+}
+
+// the ledger after an accepted swap
+pub fn count_swap(stats: Stats, change: i64) -> Stats
+    requires { ⌜ (natAbs (stats .error) ≤ mostSquared) × (natAbs change ≤ 2 ^ 50) × (stats .swaps ≤ 2 ^ 44) ⌝ }
+    ensures { λ r. ⌜ r ≡ counted stats change swapCount ⌝ }
+{
+    count(stats, change, 0, 0, 1)
+}
