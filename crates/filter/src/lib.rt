@@ -16,7 +16,7 @@ pub fn autocorrelation(radius: usize, psf: &[u8], out: &mut [i32]) -> Filled
     if number != 0 {
         return Filled::Refused(number);
     }
-    filter_sums::autocorrelate(radius, psf, out);
+    filter_correlate::autocorrelate(radius, psf, out);
     Filled::Done
 }
 

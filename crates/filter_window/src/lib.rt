@@ -1,8 +1,9 @@
-// The window update of a table: each cell near one cell gains an amount times a kernel at its offset.
+// The window update of a table: each cell near one cell gains an amount times a kernel at its offset. And a table cleared.
 ghost use mathlib.Core.Path.{_≡_};
 ghost use Prim.Native.Nat.{ℕ, _+_, _*_, _-_, _<_, _≤_, min};
 ghost use lib.ListN.{length, getD};
 ghost use lib.IntN.{pos, natAbs};
+ghost use Rattle.model.specs.Basic.{tabulate};
 ghost use Rattle.model.specs.Window.{addWindow, Small, Scaled, mostFiltered};
 ghost use Rattle.filter_window.specs.Run.{Ran};
 
@@ -67,5 +68,16 @@ pub fn add_window(
         let from = (y + reach - row) * side + (left + reach - col);
         add_run(table, at, c, from, n, amount);
         y += 1;
+    }
+}
+
+// every entry 0
+pub fn clear(table: &mut [i32])
+    ensures { λ _. ⌜ now (table .exit) ≡ tabulate (length (now (table .entry))) (λ q. pos 0) ⌝ }
+{
+    let mut q: usize = 0;
+    while q < table.len() {
+        table[q] = 0;
+        q += 1;
     }
 }

@@ -6,7 +6,7 @@ ghost use Prim.Native.Nat.{_<_};
 ghost use lib.ListN.{length};
 ghost use Rattle.model.specs.Refusal.{firstOf, gap, badCell, badCells, badPair};
 ghost use Rattle.model.specs.State.{badLike};
-use judge_input::first;
+use judge_parts::first;
 
 // 8
 pub fn judge_cell(width: usize, height: usize, row: usize, col: usize) -> u32

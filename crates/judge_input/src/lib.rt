@@ -1,168 +1,19 @@
-// Judging what a call is handed: each function answers the number of the first refusal that is drawn, 0 for none.
+// The lists of refusals because of the input, 1 to 7, of each call that is not a reader: each function answers the number
+// of the first that is drawn, 0 for none.
 ghost use mathlib.Core.List.{[], _∷_, _++_};
 ghost use mathlib.Core.Path.{_≡_};
-ghost use Prim.Native.Nat.{_≤_};
 ghost use lib.ListN.{length};
-ghost use Rattle.model.specs.Psf.{total};
-ghost use Rattle.model.specs.Refusal.{firstOf, either, above, badSize, badRadius, badReach, badKind, badLength, badSum};
-ghost use Rattle.model.specs.Refusal.{badDot, badGiven, handed};
+ghost use Rattle.model.specs.Refusal.{firstOf};
+ghost use Rattle.model.specs.Refusal.{badDot, handed};
 ghost use Rattle.model.specs.Refusal.{autocorrelationRefusal, halftoneRefusal, startRefusal, writeRefusal};
+use judge_parts::first;
+use judge_parts::judge_all_measures;
+use judge_parts::judge_dots;
+use judge_parts::judge_given;
+use judge_parts::judge_lengths;
+use judge_parts::judge_measures;
+use judge_parts::judge_slices;
 use model::Measures;
-
-// the sum of bytes, at most as many as the cells of the largest plate
-pub fn sum(bytes: &[u8]) -> usize
-    requires { ⌜ length (now bytes) ≤ 65536 ⌝ }
-    ensures { λ r. ⌜ r ≡ total (now (bytes .entry)) ⌝ }
-{
-    let mut sum: usize = 0;
-    let mut i = 0;
-    while i < bytes.len() {
-        sum += bytes[i] as usize;
-        i += 1;
-    }
-    sum
-}
-
-// whether a byte is above the limit
-fn any_above(limit: u8, bytes: &[u8]) -> bool
-    ensures { λ r. ⌜ r ≡ above limit (now (bytes .entry)) ⌝ }
-{
-    let mut i = 0;
-    while i < bytes.len() {
-        if limit < bytes[i] {
-            return true;
-        }
-        i += 1;
-    }
-    false
-}
-
-// the first of two numbers that is not 0
-pub fn first(a: u32, b: u32) -> u32
-    ensures { λ r. ⌜ r ≡ either a b ⌝ }
-{
-    if a != 0 {
-        return a;
-    }
-    b
-}
-
-// 1 and 2
-pub fn judge_measures(width: usize, height: usize, radius: usize) -> u32
-    ensures { λ r. ⌜ r ≡ firstOf (badSize width height ∷ badRadius radius ∷ []) ⌝ }
-{
-    if width == 0 {
-        return 1;
-    }
-    if 256 < width {
-        return 1;
-    }
-    if height == 0 {
-        return 1;
-    }
-    if 256 < height {
-        return 1;
-    }
-    if 3 < radius {
-        return 2;
-    }
-    0
-}
-
-// 3 and 4
-fn judge_options(reach: usize, kind: usize) -> u32
-    ensures { λ r. ⌜ r ≡ firstOf (badReach reach ∷ badKind kind ∷ []) ⌝ }
-{
-    if 6 < reach {
-        return 3;
-    }
-    if 2 < kind {
-        return 4;
-    }
-    0
-}
-
-// 1 to 4
-pub fn judge_all_measures(m: Measures) -> u32
-    ensures { λ r. ⌜ r ≡ firstOf
-        (badSize (m .width) (m .height) ∷ badRadius (m .radius) ∷ badReach (m .reach) ∷ badKind (m .start) ∷ []) ⌝ }
-{
-    let size = judge_measures(m.width, m.height, m.radius);
-    let options = judge_options(m.reach, m.start);
-    first(size, options)
-}
-
-// 5, of a psf of radius at most 3 and of slices that should be as long as `cells`
-fn judge_lengths(
-    radius: usize,
-    psf: &[u8],
-    cells: usize,
-    gray: usize,
-    dots: usize,
-    table: usize,
-) -> u32
-    requires { ⌜ radius ≤ 3 ⌝ }
-    ensures { λ r. ⌜ r ≡ firstOf (badLength radius (now (psf .entry)) cells (gray ∷ dots ∷ table ∷ []) ∷ []) ⌝ }
-{
-    let side = 2 * radius + 1;
-    if psf.len() != side * side {
-        return 5;
-    }
-    if gray != cells {
-        return 5;
-    }
-    if dots != cells {
-        return 5;
-    }
-    if table != cells {
-        return 5;
-    }
-    0
-}
-
-// 5 and 6, of the same
-pub fn judge_slices(
-    radius: usize,
-    psf: &[u8],
-    cells: usize,
-    gray: usize,
-    dots: usize,
-    table: usize,
-) -> u32
-    requires { ⌜ radius ≤ 3 ⌝ }
-    ensures { λ r. ⌜ r ≡ firstOf
-        (badLength radius (now (psf .entry)) cells (gray ∷ dots ∷ table ∷ []) ∷ badSum (now (psf .entry)) ∷ []) ⌝ }
-{
-    let lengths = judge_lengths(radius, psf, cells, gray, dots, table);
-    if lengths != 0 {
-        return lengths;
-    }
-    let total = sum(psf);
-    if total == 0 {
-        return 6;
-    }
-    if 1024 < total {
-        return 6;
-    }
-    0
-}
-
-// 7
-pub fn judge_dots(dots: &[u8]) -> u32
-    ensures { λ r. ⌜ r ≡ firstOf (badDot (now (dots .entry)) ∷ []) ⌝ }
-{
-    if any_above(1, dots) { 7 } else { 0 }
-}
-
-// 7 at a start, which reads the dots given with kind 2 only
-fn judge_given(kind: usize, dots: &[u8]) -> u32
-    ensures { λ r. ⌜ r ≡ firstOf (badGiven kind (now (dots .entry)) ∷ []) ⌝ }
-{
-    if kind != 2 {
-        return 0;
-    }
-    judge_dots(dots)
-}
 
 // 1 to 6, of a call that is handed all five measures
 pub fn judge_handed(measures: Measures, psf: &[u8], gray: usize, dots: usize, table: usize) -> u32

@@ -1,2 +1,2 @@
--- What the proofs of the judges of the state rest on.
-pub mod Laws
+-- What the proofs of 20 share.
+pub mod Fresh

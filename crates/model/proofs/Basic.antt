@@ -12,9 +12,9 @@ use borrow.Author.Tests.{eqb-true, eqb-false}
 use lib.Dec.{T, ltb, eqb, leb→le, ltb→lt, lt→ltb}
 use lib.IntN.{ℤ, pos, negsuc, negℤ, _+ℤ_, _-ℤ_}
 use lib.Signed.{_≤ℤ_, _<ℤ_}
-use lib.ListN.{length, getD, set, length-append, length-map, length-set}
+use lib.ListN.{length, getD, set, take, length-append, length-map, length-set}
 use lib.ListN.{List·getD-append, List·getD-map, List·getD-eq-default}
-use lib.Seq.{getD-at, getD-set-same, getD-set-other, ext-getD}
+use lib.Seq.{length-take-le, getD-at, getD-set-same, getD-set-other, ext-getD}
 use Rattle.algebra.proofs.Solver.{ring!, reify}
 use Rattle.algebra.proofs.Order.{show≤, show<, show≡, read<, read≡}
 use Rattle.algebra.proofs.Grid.{cell<}
@@ -55,11 +55,18 @@ All P (x ∷ l) = P x × All P l
 pub at-most-tail : {k x : ℕ} {l : List ℕ} → AtMost k (x ∷ l) → AtMost k l
 at-most-tail h = record { each = λ i. h .each (suc i) }
 
+-- ---- a part of a list that is lent
+pub part-whole : {A : Type 0} (n : ℕ) (l : List A) → n ≤ length l → n ≡ length (take n l)
+part-whole n l h = sym (length-take-le n l h)
+
 -- ---- a tabulated list
 pub length-tabulate {ℓ} : {A : Type ℓ} (n : ℕ) (f : ℕ → A) → length (tabulate n f) ≡ n
 unfolding tabulate
 length-tabulate zero f = refl
 length-tabulate (suc n) f = length-append (tabulate n f) (f n ∷ []) ∙ omega (arith, length-tabulate n f)
+
+pub table-long {ℓ} : {A : Type ℓ} (n : ℕ) (f : ℕ → A) {t : List A} → t ≡ tabulate n f → length t ≡ n
+table-long n f e = ap length e ∙ length-tabulate n f
 
 pub getD-tabulate {ℓ} : {A : Type ℓ} (n : ℕ) (f : ℕ → A) (i : ℕ) (z : A) → i < n → getD (tabulate n f) i z ≡ f i
 unfolding tabulate

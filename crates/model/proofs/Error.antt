@@ -19,9 +19,9 @@ use Rattle.algebra.proofs.SumOrder.{sum-nonneg, sum-cells, weighted≤, natAbs-
 use Rattle.algebra.proofs.Interval.{sumFrom-cong, sumFrom-swap, sumFrom-nonneg, correlate-widened, Supported2}
 use Rattle.algebra.proofs.Quadratic.{transform-edit, quadratic-edit, quadratic-cong, gram}
 use Rattle.model.specs.Psf.{total, psfAt, autocorrelation}
-use Rattle.model.specs.Error.{Target, cells, row, column, kernel, error, filteredError, filteredErrors}
+use Rattle.model.specs.Error.{Target, cells, row, column, kernel, errorOf, error, filteredError, filteredErrors}
 use Rattle.model.specs.Error.{squaredError, perceivedError, perceivedSquares}
-use Rattle.model.proofs.Basic.{length-tabulate}
+use Rattle.model.proofs.Basic.{length-tabulate, getD-tabulate}
 use Rattle.model.proofs.Psf.{psf-supported, autocorrelation-even, autocorrelation-nonneg, autocorrelation-grid≤}
 
 -- a difference of two numbers from 0 to B
@@ -32,6 +32,16 @@ module _ (t : Target) where
   pub filtered-long : (dots : List ℕ) → length (filteredErrors t dots) ≡ cells t
   unfolding filteredErrors
   filtered-long dots = length-tabulate (cells t) (filteredError t dots)
+
+  -- E by one pass over the table
+  pub weighed-is : (dots : List ℕ) → length (t .gray) ≡ cells t
+      → sumTo (length (t .gray)) (λ m.
+      errorOf (t .step) (t .gray) dots m *ℤ getD (filteredErrors t dots) m (pos 0)) ≡ squaredError t dots
+  unfolding filteredErrors squaredError error
+  weighed-is dots e =
+      ap (λ n. sumTo n (λ m. errorOf (t .step) (t .gray) dots m *ℤ getD (filteredErrors t dots) m (pos 0))) e
+      ∙ sum-cong (cells t) (λ m l.
+      ap (λ z. errorOf (t .step) (t .gray) dots m *ℤ z) (getD-tabulate (cells t) (filteredError t dots) m (pos 0) l))
 
   -- c(n - m) = c(m - n)
   pub kernel-symmetric : (n m : ℕ) → kernel t n m ≡ kernel t m n

@@ -1,5 +1,7 @@
--- The starred examples of document 01 hold: each figure is computed from the sums.
+-- The starred examples of document 01 hold, and plates at rest break the half-peak bound on its other side: each figure is
+-- computed from the sums.
 use mathlib.Core.Path.{refl}
+use native.Mathlib.Omega.{arith}
 use Rattle.algebra.specs.Sum.{sumTo, sumFrom}
 use Rattle.model.specs.Basic.{tabulate, gridAt, squareAt}
 use Rattle.model.specs.Psf.{total, psfAt, autocorrelation}
@@ -16,7 +18,9 @@ use Rattle.model.specs.Text.{digits}
 use Rattle.model.specs.Sheet.{names, psfName, grayName, dotsName, sheetText}
 use Rattle.model.specs.Format.{head, body, fieldAt, headOf, bodyEnd, readSheet}
 use Rattle.model.specs.Program.{refusedText, figuresText, processedText, output}
-use Rattle.model.specs.Examples.{workedInput, workedOutput, Examples}
+use Rattle.model.specs.Examples.{workedInput, workedOutput, Examples, dark, darkDots, light, lightDots, OneSided}
+use Rattle.model.proofs.Refusal.{none-above}
+use Rattle.model.proofs.Rest.{rest-tested}
 
 pub examples : Examples
 unfolding sumTo sumFrom tabulate gridAt squareAt psfAt autocorrelation kernel error filteredError filteredErrors
@@ -54,4 +58,17 @@ examples =
       worked-start = refl;
       worked-converges = refl;
       worked-output = refl;
+    }
+
+pub one-sided : OneSided
+unfolding sumTo sumFrom tabulate gridAt squareAt psfAt autocorrelation kernel error filteredError filteredErrors
+    squaredError above someBelow made toggle swap change
+one-sided =
+    record {
+      dark-table = refl;
+      dark-rests = rest-tested dark darkDots (omega arith) (record { long = refl; bits = record { each = none-above 1 darkDots refl } }) refl refl;
+      below-under-dot = λ h. h .le;
+      light-table = refl;
+      light-rests = rest-tested light lightDots (omega arith) (record { long = refl; bits = record { each = none-above 1 lightDots refl } }) refl refl;
+      above-under-blank = λ h. h .le;
     }

@@ -42,7 +42,7 @@ use Rattle.model.specs.SheetCalls.{result as written, withGiven, written
 use Rattle.model.specs.Program.{refusedText, statsText, convergedText, startedText, processedText}
 use Rattle.model.specs.Program.{handedDots, output}
 use Rattle.model.specs.Interface.{numbers, statsIn, startOver, Slices, slicesOf, heldIn, callOver, runOver}
-use Rattle.model.specs.Examples.{Examples}
+use Rattle.model.specs.Examples.{Examples, OneSided}
 use Rattle.model.proofs.Basic.{All}
 use Rattle.model.proofs.Psf.{autocorrelation-even, autocorrelation-supported}
 use Rattle.model.proofs.Psf.{autocorrelation-nonneg, autocorrelation-total}
@@ -65,7 +65,7 @@ use Rattle.model.proofs.Lists.{heldOf, call-same, call-later, Alike, ru
 use Rattle.model.proofs.Sheet.{read-exactly, read-back, same-text, written-whole, written-back}
 use Rattle.model.proofs.Refused.{read-draws, twelve-lacks, read-begins, ten-stops}
 use Rattle.model.proofs.Interface.{start-over, call-over, stored-read, run-over}
-use Rattle.model.proofs.Examples.{examples}
+use Rattle.model.proofs.Examples.{examples, one-sided}
 
 -- ---- the autocorrelation, of any psf
 module _ (r : ℕ) (psf : List ℕ) where
@@ -655,3 +655,7 @@ module _ (m : Measures) (psf gray : List ℕ) where
 -- ---- the starred examples of document 01, and its worked example as the program prints it
 pub examples-hold : Examples
 examples-hold = examples
+
+-- the half-peak bound is one-sided: plates at rest, at every reach, break its other side under a dot and under a blank
+pub half-peak-is-one-sided : OneSided
+half-peak-is-one-sided = one-sided

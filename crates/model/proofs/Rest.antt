@@ -1,11 +1,13 @@
--- Rest: where nothing that a toggle scan or a swap scan attempts lowers E, no toggle and no swap within reach does, and
--- the table keeps to the two half-peak bounds, one side under dots and the other under blanks.
-use mathlib.Core.Bool.{true, not, _&&_}
+-- Rest: where no toggle and no swap within reach lowers E, the table keeps to the two half-peak bounds, one side under
+-- dots and the other under blanks (`rest-if`). So it is where nothing that the scans attempt lowers E (`rest-by`), and
+-- where a test that can be computed says so (`rest-tested`).
+use mathlib.Core.Bool.{Bool, true, false, true≢false, not, _&&_}
 use mathlib.Core.List.{List, [], _∷_, List·Memᴰ as In, List·Memᴰ·head as here, List·Memᴰ·tail as there}
 use mathlib.Core.Path.{_≡_, sym, _∙_, ap, ap₂, subst}
 use Prim.Native.Nat.{ℕ, _/_, _%_, _≤_, _<_}
 use native.Mathlib.Omega.{arith}
 use borrow.Author.Tests.{ne-eqb}
+use lib.Dec.{eqb}
 use lib.IntN.{ℤ, pos, negsuc, negℤ, _+ℤ_, _*ℤ_}
 use lib.Signed.{_≤ℤ_}
 use lib.ListN.{getD}
@@ -16,11 +18,13 @@ use Rattle.model.specs.Psf.{peak}
 use Rattle.model.specs.Error.{Target, cells, filteredError, filteredErrors}
 use Rattle.model.specs.Refusal.{gap}
 use Rattle.model.specs.Change.{signOf, sign, toggleSum}
-use Rattle.model.specs.Reference.{Move, toggle, swap}
+use Rattle.model.specs.State.{someBelow}
+use Rattle.model.specs.Reference.{Move, toggle, swap, lowers}
 use Rattle.model.specs.Partners.{Offset, offsets, partner}
 use Rattle.model.specs.Scan.{toggles, suits, swapsBy, swaps}
 use Rattle.model.specs.Lists.{Rest}
 use Rattle.model.proofs.Basic.{pick-cases, All, getD-tabulate}
+use Rattle.model.proofs.State.{at-least, all-below}
 use Rattle.model.proofs.Change.{toggle-change}
 use Rattle.model.proofs.Partners.{IsPartner, partners-cover}
 use Rattle.model.proofs.Scan.{Halftone, Calm}
@@ -54,6 +58,41 @@ at-blank : (T P : ℤ) → pos 0 ≤ℤ (pos 2 *ℤ pos 1 *ℤ T +ℤ P) → neg
 at-blank T P h =
     show≤ (T ∷ P ∷ []) (search reify depth 40) (omega (arith, read≤ (T ∷ P ∷ []) (search reify depth 40) h))
 
+-- of a conjunction that fails while the first holds, the second fails
+and-no : (a b : Bool) → a ≡ true → a && b ≡ false → b ≡ false
+and-no true b e h = h
+and-no false b e h = absurd (true≢false (sym e))
+
+-- at rest, if no toggle lowers E and no swap within reach does
+module _ (t : Target) (reach : ℕ) (step : 0 < t .step) (dots : List ℕ) (f : Halftone t dots)
+    (toggle-calm : (m : ℕ) → m < cells t → Calm t dots (toggle dots m))
+    (swap-calm : (m n : ℕ) → m < cells t → n < cells t
+    → gap (m / t .width) (n / t .width) ≤ reach → gap (m % t .width) (n % t .width) ≤ reach
+    → (getD dots m 0 ≡ getD dots n 0 → ⊥) → Calm t dots (swap dots m n)) where
+  abbrev P : ℤ
+  P = pos (t .step) *ℤ peak (t .radius) (t .psf)
+
+  -- a toggle adds step × (2 × s(m) × T(m) + step × P)
+  half : (m : ℕ) → m < cells t → (d : ℕ) → getD dots m 0 ≡ d
+      → pos 0 ≤ℤ (pos 2 *ℤ signOf d *ℤ getD (filteredErrors t dots) m (pos 0) +ℤ P)
+  unfolding toggleSum filteredErrors
+  half m h d e =
+      subst (λ T. pos 0 ≤ℤ (pos 2 *ℤ signOf d *ℤ T +ℤ P))
+      (sym (getD-tabulate (cells t) (filteredError t dots) m (pos 0) h))
+      (subst (λ x. pos 0 ≤ℤ (pos 2 *ℤ signOf x *ℤ filteredError t dots m +ℤ P)) e
+      (per (t .step) (pos 2 *ℤ sign dots m *ℤ filteredError t dots m +ℤ P) step
+      (subst (λ z. pos 0 ≤ℤ z) (toggle-change t dots (f .bits) (f .long) m h) (toggle-calm m h))))
+
+  pub rest-if : Rest t reach dots (filteredErrors t dots)
+  rest-if =
+      record {
+        no-toggle-lowers = toggle-calm;
+        no-swap-lowers = swap-calm;
+        under-dots = λ m h e. at-dot (getD (filteredErrors t dots) m (pos 0)) P (half m h 1 e);
+        under-blanks = λ m h e. at-blank (getD (filteredErrors t dots) m (pos 0)) P (half m h 0 e);
+      }
+
+-- ---- by the scans: if nothing that they attempt lowers E
 module _ (t : Target) (reach : ℕ) (wide : 0 < t .width) (step : 0 < t .step) (near : reach ≤ 6) (dots : List ℕ)
     (f : Halftone t dots) (toggles-calm : (m : ℕ) → m < cells t → All (Calm t dots) (toggles dots m))
     (swaps-calm : (m : ℕ) → m < cells t → All (Calm t dots) (swaps (t .width) (t .height) reach dots m)) where
@@ -75,25 +114,28 @@ module _ (t : Target) (reach : ℕ) (wide : 0 < t .width) (step : 0 < t .step) (
       (of-partner (t .width) (t .height) dots m (Calm t dots) (c .offset) (offsets reach) (c .listed)
       suited (swaps-calm m h))
 
-  abbrev P : ℤ
-  P = pos (t .step) *ℤ peak (t .radius) (t .psf)
-
-  -- a toggle adds step × (2 × s(m) × T(m) + step × P)
-  half : (m : ℕ) → m < cells t → (d : ℕ) → getD dots m 0 ≡ d
-      → pos 0 ≤ℤ (pos 2 *ℤ signOf d *ℤ getD (filteredErrors t dots) m (pos 0) +ℤ P)
-  unfolding toggleSum filteredErrors
-  half m h d e =
-      subst (λ T. pos 0 ≤ℤ (pos 2 *ℤ signOf d *ℤ T +ℤ P))
-      (sym (getD-tabulate (cells t) (filteredError t dots) m (pos 0) h))
-      (subst (λ x. pos 0 ≤ℤ (pos 2 *ℤ signOf x *ℤ filteredError t dots m +ℤ P)) e
-      (per (t .step) (pos 2 *ℤ sign dots m *ℤ filteredError t dots m +ℤ P) step
-      (subst (λ z. pos 0 ≤ℤ z) (toggle-change t dots (f .bits) (f .long) m h) (toggle-calm m h))))
-
   pub rest-by : Rest t reach dots (filteredErrors t dots)
-  rest-by =
-      record {
-        no-toggle-lowers = toggle-calm;
-        no-swap-lowers = swap-calm;
-        under-dots = λ m h e. at-dot (getD (filteredErrors t dots) m (pos 0)) P (half m h 1 e);
-        under-blanks = λ m h e. at-blank (getD (filteredErrors t dots) m (pos 0)) P (half m h 0 e);
-      }
+  rest-by = rest-if t reach step dots f toggle-calm swap-calm
+
+-- ---- by a test that can be computed: of each toggle, and of each swap of unlike dots
+module _ (t : Target) (dots : List ℕ) where
+  abbrev toggle-lowers : Bool
+  toggle-lowers = someBelow (cells t) (λ m. lowers t dots (toggle dots m))
+
+  abbrev swap-lowers : Bool
+  swap-lowers =
+      someBelow (cells t) (λ m.
+      someBelow (cells t) (λ n. not (eqb (getD dots m 0) (getD dots n 0)) && lowers t dots (swap dots m n)))
+
+  pub rest-tested : 0 < t .step → Halftone t dots → toggle-lowers ≡ false → swap-lowers ≡ false
+      → (reach : ℕ) → Rest t reach dots (filteredErrors t dots)
+  rest-tested step f none none′ reach =
+      rest-if t reach step dots f
+      (λ m h. at-least _ _ (all-below (cells t) (λ m. lowers t dots (toggle dots m)) none m h))
+      (λ m n h k rows columns unlike. at-least _ _
+      (and-no _ _ (ap not (ne-eqb _ _ unlike))
+      (all-below (cells t)
+      (λ n. not (eqb (getD dots m 0) (getD dots n 0)) && lowers t dots (swap dots m n))
+      (all-below (cells t)
+      (λ m. someBelow (cells t) (λ n. not (eqb (getD dots m 0) (getD dots n 0)) && lowers t dots (swap dots m n)))
+      none′ m h) n k)))

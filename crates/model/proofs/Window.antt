@@ -31,6 +31,9 @@ use Rattle.model.proofs.Error.{kernel-symmetric}
 pub small-tabulate : (k n : ℕ) (f : ℕ → ℤ) → ((q : ℕ) → q < n → natAbs (f q) ≤ k) → Small k (tabulate n f)
 small-tabulate k n f h = record { each = tabulate-each (λ z. natAbs z ≤ k) (pos 0) n f (omega arith) h }
 
+pub table-small : {k : ℕ} (n : ℕ) (f : ℕ → ℤ) {t : List ℤ} → t ≡ tabulate n f → ((q : ℕ) → natAbs (f q) ≤ k) → Small k t
+table-small {k} n f e h = subst (Small k) (sym e) (small-tabulate k n f (λ q l. h q))
+
 pub small-bytes : {k : ℕ} (l : List ℕ) → ((i : ℕ) → getD l i 0 ≤ k) → Small k (map pos l)
 small-bytes {k} l h = record { each = λ q. subst (λ (z : ℤ). natAbs z ≤ k) (sym (List·getD-map pos l q 0)) (h q) }
 

@@ -1,16 +1,18 @@
--- The starred examples of document 01, as one table: a field for each figure. `examples` of proofs/Examples.antt fills
--- it by computing the sums.
+-- The starred examples of document 01, as one table: a field for each figure. And plates that show one of its mistakes to
+-- be one. `examples` and `one-sided` of proofs/Examples.antt fill both tables by computing the sums.
 use mathlib.Core.Path.{_≡_}
 use mathlib.Core.List.{List, [], _∷_, _++_}
 use Prim.Native.Nat.{ℕ}
-use lib.IntN.{ℤ, pos, negsuc}
+use lib.IntN.{ℤ, pos, negsuc, negℤ, _*ℤ_}
+use lib.Signed.{_≤ℤ_}
 use Rattle.model.specs.declared.Measures.{Measures}
 use Rattle.model.specs.declared.Stats.{Stats}
-use Rattle.model.specs.Psf.{autocorrelation}
+use Rattle.model.specs.Psf.{autocorrelation, peak}
 use Rattle.model.specs.Error.{Target, targetOf, filteredErrors, squaredError}
 use Rattle.model.specs.Screen.{thresholdAt, startDots}
 use Rattle.model.specs.Reference.{Tried, accepted, declined}
 use Rattle.model.specs.Calls.{result, Outcome, Buffers, startCall, toggleCall, swapCall, convergeCall}
+use Rattle.model.specs.Lists.{Rest}
 use Rattle.model.specs.Text.{bytes}
 use Rattle.model.specs.Program.{output}
 
@@ -130,3 +132,30 @@ pub record Examples : Type 0 where
       (1 ∷ 0 ∷ []) (pos 530 ∷ pos 20 ∷ [])
   -- the same as texts: what the program prints of that sheet
   pub worked-output : output workedInput ≡ workedOutput
+
+-- ---- document 01, mistakes to rule out: claiming |T| within half the peak on both sides
+-- rows of 3 and of 4 cells with the even psf, whose 255 × P is 1530
+abbrev pub dark : Target
+dark = targetOf 3 1 1 even (100 ∷ 254 ∷ 100 ∷ [])
+
+abbrev pub darkDots : List ℕ
+darkDots = 0 ∷ 1 ∷ 0 ∷ []
+
+abbrev pub light : Target
+light = targetOf 4 1 1 even (64 ∷ 64 ∷ 60 ∷ 140 ∷ [])
+
+abbrev pub lightDots : List ℕ
+lightDots = 0 ∷ 1 ∷ 0 ∷ 1 ∷ []
+
+pub record OneSided : Type 0 where
+  -- dots 0 1 0: T -696 -794 -696
+  pub dark-table : filteredErrors dark darkDots ≡ negsuc 695 ∷ negsuc 793 ∷ negsuc 695 ∷ []
+  -- at rest at every reach
+  pub dark-rests : (reach : ℕ) → Rest dark reach darkDots (filteredErrors dark darkDots)
+  -- yet twice the table is not at least -255 × P under the dot
+  pub below-under-dot : negℤ (pos 255 *ℤ peak 1 even) ≤ℤ (pos 2 *ℤ negsuc 793) → ⊥
+  -- dots 0 1 0 1: T 320 765 800 641
+  pub light-table : filteredErrors light lightDots ≡ pos 320 ∷ pos 765 ∷ pos 800 ∷ pos 641 ∷ []
+  pub light-rests : (reach : ℕ) → Rest light reach lightDots (filteredErrors light lightDots)
+  -- yet twice the table is not at most 255 × P under the third cell, a blank
+  pub above-under-blank : (pos 2 *ℤ pos 800) ≤ℤ (pos 255 *ℤ peak 1 even) → ⊥

@@ -8,18 +8,17 @@ ghost use Rattle.model.specs.Interface.{startOver, toggleOver, swapOver, toggle
 ghost use Rattle.model.specs.Interface.{changeOf, triedNumbers, scanNumbers, convergeNumbers};
 ghost use Rattle.model.specs.Interface.{sheetStatus, offsetAfter, sheetAfter, measureNumbers, readOver};
 ghost use Rattle.model.specs.SheetCalls.{readingOf, writeCall};
-use model::Filled;
 use model::Measures;
-use model::Reading;
-use model::SquaredError;
-use model::Writing;
-use platemaker_numbers::judge_stats;
-use platemaker_numbers::lay_attempt;
-use platemaker_numbers::lay_converged;
-use platemaker_numbers::lay_scan;
-use platemaker_numbers::lay_start;
+use platemaker_answers::lay_attempt;
+use platemaker_answers::lay_converged;
+use platemaker_answers::lay_filled;
+use platemaker_answers::lay_reading;
+use platemaker_answers::lay_scan;
+use platemaker_answers::lay_squared_error;
+use platemaker_answers::lay_start;
+use platemaker_answers::lay_writing;
+use platemaker_numbers::judge_slice;
 use platemaker_numbers::stats_of;
-use platemaker_numbers::store_measures;
 
 // The autocorrelation.
 #[no_mangle]
@@ -29,10 +28,7 @@ pub extern "C" fn pm_autocorrelation(radius: usize, psf: &[u8], out: &mut [i32])
         × (now (out .exit) ≡ o .buffer)) ⌝ }
 {
     let answer = filter::autocorrelation(radius, psf, out);
-    match answer {
-        Filled::Done => 0,
-        Filled::Refused(number) => number,
-    }
+    lay_filled(answer)
 }
 
 // The filtered error (document 01: the table).
@@ -52,10 +48,7 @@ pub extern "C" fn pm_filtered_error(
         × (now (table .exit) ≡ o .buffer)) ⌝ }
 {
     let answer = filter::filtered_error(width, height, radius, psf, gray, dots, table);
-    match answer {
-        Filled::Done => 0,
-        Filled::Refused(number) => number,
-    }
+    lay_filled(answer)
 }
 
 // The squared error.
@@ -75,13 +68,7 @@ pub extern "C" fn pm_squared_error(
         × (now (error .exit) ≡ after (λ e. e) (now (error .entry)) (o .reply))) ⌝ }
 {
     let answer = filter::squared_error(width, height, radius, psf, gray, dots);
-    match answer {
-        SquaredError::Value(value) => {
-            *error = value;
-            0
-        }
-        SquaredError::Refused(number) => number,
-    }
+    lay_squared_error(answer, error)
 }
 
 // A start.
@@ -113,7 +100,7 @@ pub extern "C" fn pm_start(
         reach: reach,
         start: start,
     };
-    let number = judge_stats(measures, stats);
+    let number = judge_slice(measures, stats);
     if number != 0 {
         return number;
     }
@@ -154,7 +141,7 @@ pub extern "C" fn pm_try_toggle(
         reach: reach,
         start: start,
     };
-    let number = judge_stats(measures, stats);
+    let number = judge_slice(measures, stats);
     if number != 0 {
         return number;
     }
@@ -199,7 +186,7 @@ pub extern "C" fn pm_try_swap(
         reach: reach,
         start: start,
     };
-    let number = judge_stats(measures, stats);
+    let number = judge_slice(measures, stats);
     if number != 0 {
         return number;
     }
@@ -250,7 +237,7 @@ pub extern "C" fn pm_toggle_scan(
         reach: reach,
         start: start,
     };
-    let number = judge_stats(measures, stats);
+    let number = judge_slice(measures, stats);
     if number != 0 {
         return number;
     }
@@ -290,7 +277,7 @@ pub extern "C" fn pm_swap_scan(
         reach: reach,
         start: start,
     };
-    let number = judge_stats(measures, stats);
+    let number = judge_slice(measures, stats);
     if number != 0 {
         return number;
     }
@@ -330,7 +317,7 @@ pub extern "C" fn pm_converge(
         reach: reach,
         start: start,
     };
-    let number = judge_stats(measures, stats);
+    let number = judge_slice(measures, stats);
     if number != 0 {
         return number;
     }
@@ -363,16 +350,7 @@ pub extern "C" fn pm_read_sheet(
         return 5;
     }
     let answer = sheet::read_sheet(bytes, psf, gray, dots);
-    match answer {
-        Reading::Done(read) => {
-            store_measures(measures, read);
-            0
-        }
-        Reading::Refused(number, at) => {
-            *offset = at;
-            number
-        }
-    }
+    lay_reading(answer, measures, offset)
 }
 
 // Writes a sheet.
@@ -406,14 +384,5 @@ pub extern "C" fn pm_write_sheet(
         start: start,
     };
     let answer = sheet::write_sheet(measures, psf, gray, dots, out);
-    match answer {
-        Writing::Done(written) => {
-            *length = written;
-            0
-        }
-        Writing::Refused(number, at) => {
-            *offset = at;
-            number
-        }
-    }
+    lay_writing(answer, length, offset)
 }

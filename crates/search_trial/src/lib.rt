@@ -15,13 +15,13 @@ use model::Attempt;
 use model::Measures;
 use model::Stats;
 use search_change::between;
-use search_change::count_swap;
-use search_change::count_toggle;
-use search_change::flip;
 use search_change::lowers;
 use search_change::peak;
 use search_change::swap_change;
 use search_change::toggle_change;
+use search_make::count_swap;
+use search_make::count_toggle;
+use search_make::flip;
 
 // what a toggle of the cell m would add to the squared error
 pub fn weigh_toggle(

@@ -8,7 +8,7 @@ ghost use Rattle.model.specs.State.{freshStats};
 ghost use Rattle.model.specs.Calls.{started, startCall};
 use filter_sums::filter_and_square;
 use judge_input::judge_start;
-use judge_input::sum;
+use judge_parts::sum;
 use model::Measures;
 use model::Started;
 use model::Stats;

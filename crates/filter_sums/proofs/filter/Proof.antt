@@ -13,9 +13,9 @@ use mir.Facts.{fits-le, fits-lit}
 use Rattle.model.specs.Basic.{tabulate, AtMost}
 use Rattle.model.specs.Error.{errorOf}
 use Rattle.model.specs.Window.{Small}
-use Rattle.filter_sums.specs.Passes.{spread, gathered}
-use Rattle.filter_sums.proofs.Scatter.{table-long, part-whole}
-use Rattle.filter_sums.proofs.Passes.{errors-small, spread-long, spread-all-small, gathered-is}
+use Rattle.model.proofs.Basic.{table-long, part-whole}
+use Rattle.filter_passes.specs.Passes.{spread, gathered}
+use Rattle.filter_passes.proofs.Passes.{errors-small, spread-long, spread-all-small, gathered-is}
 use Rattle.filter_sums.proofs.filter.Statement.{statement}
 use Rattle.filter_sums.proofs.filter.Tie as tie
 

@@ -10,9 +10,8 @@ use Rattle.algebra.proofs.Machine.{read-back}
 use Rattle.algebra.specs.Sum.{sumTo}
 use Rattle.model.specs.Error.{Target, targetOf, errorOf, filteredErrors, squaredError}
 use Rattle.model.specs.Window.{Small, mostFiltered}
-use Rattle.model.proofs.Error.{filtered-long}
+use Rattle.model.proofs.Error.{filtered-long, weighed-is}
 use Rattle.model.proofs.Halftone.{few-cells, filtered-small}
-use Rattle.filter_sums.proofs.Scatter.{weighed-is}
 use Rattle.filter_sums.proofs.filter_and_square.Statement.{statement}
 use Rattle.filter_sums.proofs.filter_and_square.Tie as tie
 
@@ -50,8 +49,7 @@ module _ (c : tie.After-filter) where
   weighed =
       ap (λ (t : List ℤ). sumTo (length (s .args .gray .now)) (λ m.
       errorOf 255 (s .args .gray .now) (s .args .dots .now) m *ℤ getD t m (pos 0))) left-is
-      ∙ weighed-is (s .args .width) (s .args .height) (s .args .radius) (s .args .psf .now) (s .args .gray .now)
-      (s .args .dots .now) (s .pre .gray-length)
+      ∙ weighed-is target (s .args .dots .now) (s .pre .gray-length)
 
 weigh-requires : tie.Need-weigh-requires
 weigh-requires c κs =

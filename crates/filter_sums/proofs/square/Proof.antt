@@ -6,7 +6,7 @@ use mathlib.Core.Path.{subst}
 use lib.ListN.{length}
 use Rattle.model.specs.Refusal.{HalftoneFits}
 use Rattle.model.proofs.Halftone.{few-cells}
-use Rattle.filter_sums.proofs.Scatter.{part-whole}
+use Rattle.model.proofs.Basic.{part-whole}
 use Rattle.filter_sums.proofs.square.Statement.{statement}
 use Rattle.filter_sums.proofs.square.Tie as tie
 

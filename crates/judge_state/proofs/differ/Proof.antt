@@ -11,7 +11,8 @@ use mir.Val.{toZ, ofZ}
 use Rattle.algebra.proofs.Machine.{read-back}
 use Rattle.model.specs.State.{unequal, someBelow}
 use Rattle.model.proofs.State.{same}
-use Rattle.judge_state.proofs.Laws.{apart, below-here, below-next}
+use Rattle.judge_ledger.proofs.Tests.{apart}
+use Rattle.judge_state.proofs.Fresh.{below-here, below-next}
 use Rattle.judge_state.proofs.differ.Statement.{statement}
 use Rattle.judge_state.proofs.differ.Tie as tie
 

@@ -16,7 +16,7 @@ use Rattle.model.specs.Refusal.{HalftoneFits}
 use Rattle.model.proofs.Error.{filtered-long}
 use Rattle.model.proofs.Halftone.{few-cells, squared-least, squared-most}
 use Rattle.model.proofs.State.{total≤}
-use Rattle.judge_state.proofs.Laws.{table-drawn, table-passed}
+use Rattle.judge_state.proofs.Fresh.{table-drawn, table-passed}
 use Rattle.judge_state.proofs.judge_state.Statement.{statement}
 use Rattle.judge_state.proofs.judge_state.Tie as tie
 
@@ -87,8 +87,8 @@ sum-requires c κs =
     let f = s (c .before .before .before .before) .pre in
     omega (arith, few-cells f, f .dots-length)
 
-judge-stats-requires : tie.Need-judge-stats-requires
-judge-stats-requires c κs =
+judge-ledger-requires : tie.Need-judge-ledger-requires
+judge-ledger-requires c κs =
     let k = c .before .before .before .before .before in
     let f = s k .pre in
     let a = s k .args in (
@@ -103,7 +103,7 @@ returns-2 c =
     let k = c .before .before .before .before .before .before in
     table-passed (target k) (s k .args .dots .now) (s k .args .table .now) _ (s k .pre .table-length) (part-is k _)
     (s k .args .stats) (c .before .before .before .differ .ensures) (c .before .before .if1 .left)
-    (rw (sym (s k .pre .table-length), sym (error-is k), sym (c .before .sum .ensures)) (c .judge-stats .ensures))
+    (rw (sym (s k .pre .table-length), sym (error-is k), sym (c .before .sum .ensures)) (c .judge-ledger .ensures))
 
 pub judge-state-spec : {M : Type 1} → statement M
 judge-state-spec =
@@ -117,5 +117,5 @@ judge-state-spec =
     differ-requires
     returns
     sum-requires
-    judge-stats-requires
+    judge-ledger-requires
     returns-2)

@@ -7,8 +7,8 @@ use Rattle.platemaker.proofs.Laws.{to-lay, slice-refused, slice-taken}
 use Rattle.platemaker.proofs.pm_start.Statement.{statement}
 use Rattle.platemaker.proofs.pm_start.Tie as tie
 
-judge-stats-requires : tie.Need-judge-stats-requires
-judge-stats-requires c κs = search needs
+judge-slice-requires : tie.Need-judge-slice-requires
+judge-slice-requires c κs = search needs
 
 same-length : tie.Need-same-length
 same-length c = search needs
@@ -16,7 +16,7 @@ same-length c = search needs
 returns : tie.Need-returns
 returns c =
     let (r, d, t, s, _)
-    = slice-refused _ _ _ _ _ _ _ _ (λ _. tt {0}) (tt {0}) (c .before .judge-stats .ensures) (c .if1 .taken) in
+    = slice-refused _ _ _ _ _ _ _ _ (λ _. tt {0}) (tt {0}) (c .before .judge-slice .ensures) (c .if1 .taken) in
     (r, d, t, s)
 
 start-requires : tie.Need-start-requires
@@ -27,7 +27,7 @@ lay-start-requires c κs =
     let k = c .before .before .before .before in
     let e = k .before .before .before in
     let j = e .before in
-    to-lay _ _ _ (j .judge-stats .ensures) (e .if1 .left) (k .start .ensures .0)
+    to-lay _ _ _ (j .judge-slice .ensures) (e .if1 .left) (k .start .ensures .0)
     (start-storable _ _ _ _ _
     (record { each = λ i. omega (arith, j .before .before .before .shared-slice-known2 .given i) }))
 
@@ -47,7 +47,7 @@ returns-2 c =
     let e = k .before .before .before in
     let (a, b) = p .lay-start .ensures in
     let (r, d, t, s, _)
-    = slice-taken _ _ _ _ _ _ _ _ (λ _. tt {0}) (tt {0}) (e .before .judge-stats .ensures) (e .if1 .left)
+    = slice-taken _ _ _ _ _ _ _ _ (λ _. tt {0}) (tt {0}) (e .before .judge-slice .ensures) (e .if1 .left)
     (k .start .ensures) (a, b, refl) in
     (r, d, t, s)
 
@@ -55,7 +55,7 @@ pub pm-start-spec : {M : Type 1} → statement M
 pm-start-spec =
     tie.close
     (tie.spec
-    judge-stats-requires
+    judge-slice-requires
     same-length
     returns
     start-requires

@@ -5,19 +5,19 @@ use Rattle.platemaker.proofs.Laws.{slice-six, to-lay, slice-refused, sl
 use Rattle.platemaker.proofs.pm_try_swap.Statement.{statement}
 use Rattle.platemaker.proofs.pm_try_swap.Tie as tie
 
-judge-stats-requires : tie.Need-judge-stats-requires
-judge-stats-requires c κs = search needs
+judge-slice-requires : tie.Need-judge-slice-requires
+judge-slice-requires c κs = search needs
 
 same-length : tie.Need-same-length
 same-length c = search needs
 
 returns : tie.Need-returns
-returns c = slice-refused _ _ _ _ _ _ _ _ _ _ (c .before .judge-stats .ensures) (c .if1 .taken)
+returns c = slice-refused _ _ _ _ _ _ _ _ _ _ (c .before .judge-slice .ensures) (c .if1 .taken)
 
 stats-of-requires : tie.Need-stats-of-requires
 stats-of-requires c κs =
     let e = c .before in
-    slice-six _ _ (e .before .judge-stats .ensures) (e .if1 .left)
+    slice-six _ _ (e .before .judge-slice .ensures) (e .if1 .left)
 
 try-swap-requires : tie.Need-try-swap-requires
 try-swap-requires c κs = search needs
@@ -26,7 +26,7 @@ lay-attempt-requires : tie.Need-lay-attempt-requires
 lay-attempt-requires c κs =
     let k = c .before .before .before .before .before in
     let e = k .before .before .before .before .before in
-    to-lay _ _ _ (e .before .judge-stats .ensures) (e .if1 .left) (k .try-swap .ensures .0)
+    to-lay _ _ _ (e .before .judge-slice .ensures) (e .if1 .left) (k .try-swap .ensures .0)
     (swap-storable _ _ _ _ _ _ _ _ _ _)
 
 same-length-2 : tie.Need-same-length-2
@@ -44,14 +44,14 @@ returns-2 c =
     let k = p .before .before .before .before .before .before in
     let l = k .before .before .before in
     let e = l .before .before in
-    slice-taken _ _ _ _ _ _ _ _ _ _ (e .before .judge-stats .ensures) (e .if1 .left)
+    slice-taken _ _ _ _ _ _ _ _ _ _ (e .before .judge-slice .ensures) (e .if1 .left)
     (rw (l .stats-of .ensures) at (k .try-swap .ensures)) (p .lay-attempt .ensures)
 
 pub pm-try-swap-spec : {M : Type 1} → statement M
 pm-try-swap-spec =
     tie.close
     (tie.spec
-    judge-stats-requires
+    judge-slice-requires
     same-length
     returns
     stats-of-requires

@@ -1,0 +1,2 @@
+-- What the proofs of the autocorrelation share.
+pub mod Scatter

@@ -1,0 +1,2 @@
+-- The autocorrelation as the functions of this crate build it.
+pub mod Scatter

@@ -1,0 +1,2 @@
+-- What the proofs of the two passes share.
+pub mod Passes

@@ -1,0 +1,2 @@
+-- The two passes as the functions of this crate leave them.
+pub mod Passes

@@ -1,0 +1,2 @@
+-- What the proof of 21 needs.
+pub mod Tests

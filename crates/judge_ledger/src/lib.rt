@@ -1,0 +1,47 @@
+// 21: judging the ledger that a later call is handed against the dots and their squared error.
+ghost use mathlib.Core.List.{[], _∷_};
+ghost use mathlib.Core.Path.{_≡_};
+ghost use Prim.Native.Nat.{_≤_};
+ghost use lib.IntN.{pos};
+ghost use lib.Signed.{_≤ℤ_};
+ghost use Rattle.model.specs.Error.{mostSquared};
+ghost use Rattle.model.specs.Refusal.{firstOf};
+ghost use Rattle.model.specs.State.{wrongStats};
+use model::Stats;
+
+// 21, of a plate of that many cells, whose squared error and number of dots are these. The figures of the ledger may be
+// any: each is compared before it is reckoned with.
+pub fn judge_ledger(cells: usize, error: i64, dots: usize, stats: Stats) -> u32
+    requires { ⌜ (cells ≤ 65536) × (dots ≤ 65536) × (pos 0 ≤ℤ error) × (error ≤ℤ pos mostSquared) ⌝ }
+    ensures { λ r. ⌜ r ≡ firstOf (wrongStats cells 255 error dots stats ∷ []) ⌝ }
+{
+    if stats.error != error {
+        return 21;
+    }
+    if stats.start_error < 0 {
+        return 21;
+    }
+    if 4468483974758400 < stats.start_error {
+        return 21;
+    }
+    if 17592186044416 < stats.on {
+        return 21;
+    }
+    if 17592186044416 < stats.off {
+        return 21;
+    }
+    if 17592186044416 < stats.swaps {
+        return 21;
+    }
+    if (cells as u64) < stats.start_dots {
+        return 21;
+    }
+    if dots as u64 + stats.off != stats.start_dots + stats.on {
+        return 21;
+    }
+    let changes = stats.on + stats.off + stats.swaps;
+    if stats.start_error - stats.error < (255 * changes) as i64 {
+        return 21;
+    }
+    0
+}

@@ -1,0 +1,39 @@
+-- `platemaker_answers::lay_converged` meets its contract, case by case of the answer.
+use mathlib.Core.Path.{refl}
+use borrow.Author.Needs.{needs}
+use Rattle.platemaker_answers.proofs.lay_converged.Statement.{statement}
+use Rattle.platemaker_answers.proofs.lay_converged.Tie as tie
+
+enum-known-answer : tie.Need-enum-known-answer
+enum-known-answer c = search needs
+
+store-stats-requires : tie.Need-store-stats-requires
+store-stats-requires c κs =
+    let k = c .before .before in
+    let s = k .before .before in
+    (s .pre .0, rw (k .answer .given .1) at (s .pre .1))
+
+enum-known-answer-2 : tie.Need-enum-known-answer-2
+enum-known-answer-2 c = search needs
+
+same-length : tie.Need-same-length
+same-length c = search needs
+
+returns : tie.Need-returns
+returns c =
+    let p = c .before in
+    rw (p .before .before .before .answer .given .1) (refl, p .store-stats .ensures, refl)
+
+returns-2 : tie.Need-returns-2
+returns-2 c = search needs
+
+pub lay-converged-spec : {M : Type 1} → statement M
+lay-converged-spec =
+    tie.close
+    (tie.spec
+    enum-known-answer
+    store-stats-requires
+    enum-known-answer-2
+    same-length
+    returns
+    returns-2)

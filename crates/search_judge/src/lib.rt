@@ -1,0 +1,117 @@
+// The lists of refusals of the later calls: 1 to 7, then those of the cells that the call names (8, 9), then 20 and 21,
+// then those of their dots (22). Each function answers the number of the first that is drawn, 0 for none.
+ghost use mathlib.Core.Path.{_≡_};
+ghost use Rattle.model.specs.State.{laterRefusal, toggleRefusal, swapRefusal};
+use judge_cells::judge_cell;
+use judge_cells::judge_cells;
+use judge_cells::judge_like;
+use judge_cells::judge_pair;
+use judge_input::judge_later;
+use judge_parts::first;
+use judge_state::judge_state;
+use model::Measures;
+use model::Stats;
+
+// the whole list of a toggle
+pub fn judge_toggle(
+    measures: Measures,
+    psf: &[u8],
+    gray: &[u8],
+    dots: &[u8],
+    table: &[i32],
+    stats: Stats,
+    row: usize,
+    col: usize,
+) -> u32
+    ensures { λ r. ⌜ r ≡ toggleRefusal measures (now (psf .entry)) (now (gray .entry))
+        (now (dots .entry)) (now (table .entry)) stats row col ⌝ }
+{
+    let input = judge_later(measures, psf, gray.len(), dots, table.len());
+    if input != 0 {
+        return input;
+    }
+    let cell = judge_cell(measures.width, measures.height, row, col);
+    if cell != 0 {
+        return cell;
+    }
+    judge_state(
+        measures.width,
+        measures.height,
+        measures.radius,
+        psf,
+        gray,
+        dots,
+        table,
+        stats,
+    )
+}
+
+// the whole list of a swap
+pub fn judge_swap(
+    measures: Measures,
+    psf: &[u8],
+    gray: &[u8],
+    dots: &[u8],
+    table: &[i32],
+    stats: Stats,
+    row: usize,
+    col: usize,
+    row2: usize,
+    col2: usize,
+) -> u32
+    ensures { λ r. ⌜ r ≡ swapRefusal measures (now (psf .entry)) (now (gray .entry))
+        (now (dots .entry)) (now (table .entry)) stats row col row2 col2 ⌝ }
+{
+    let input = judge_later(measures, psf, gray.len(), dots, table.len());
+    if input != 0 {
+        return input;
+    }
+    let cells = judge_cells(measures.width, measures.height, row, col, row2, col2);
+    let pair = judge_pair(measures.reach, row, col, row2, col2);
+    let named = first(cells, pair);
+    if named != 0 {
+        return named;
+    }
+    let state = judge_state(
+        measures.width,
+        measures.height,
+        measures.radius,
+        psf,
+        gray,
+        dots,
+        table,
+        stats,
+    );
+    let m = row * measures.width + col;
+    let n = row2 * measures.width + col2;
+    let like = judge_like(dots, m, n);
+    first(state, like)
+}
+
+// the whole list of a call that names no cell
+pub fn judge_scan(
+    measures: Measures,
+    psf: &[u8],
+    gray: &[u8],
+    dots: &[u8],
+    table: &[i32],
+    stats: Stats,
+) -> u32
+    ensures { λ r. ⌜ r ≡ laterRefusal measures (now (psf .entry)) (now (gray .entry))
+        (now (dots .entry)) (now (table .entry)) stats ⌝ }
+{
+    let handed = judge_later(measures, psf, gray.len(), dots, table.len());
+    if handed != 0 {
+        return handed;
+    }
+    judge_state(
+        measures.width,
+        measures.height,
+        measures.radius,
+        psf,
+        gray,
+        dots,
+        table,
+        stats,
+    )
+}
