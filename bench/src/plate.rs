@@ -1,12 +1,9 @@
 //! What both sides work on: a job (measures, psf, gray), a plate (dots, table, stats), and the calls that are measured.
 
+pub use platemaker::{ERROR, OFF, ON, START_DOTS, STATS, SWAPS};
+
 /// The ledger, in the order of the C interface; the first is the squared error at the start.
-pub type Stats = [i64; 6];
-pub const ERROR: usize = 1;
-pub const START_DOTS: usize = 2;
-pub const ON: usize = 3;
-pub const OFF: usize = 4;
-pub const SWAPS: usize = 5;
+pub type Stats = [i64; STATS];
 
 pub struct Job {
     pub width: usize,
@@ -34,7 +31,7 @@ pub struct Plate {
 impl Plate {
     /// Buffers of the right lengths, cleared.
     pub fn cleared(cells: usize) -> Plate {
-        Plate { dots: vec![0; cells], table: vec![0; cells], stats: [0; 6] }
+        Plate { dots: vec![0; cells], table: vec![0; cells], stats: [0; STATS] }
     }
 }
 

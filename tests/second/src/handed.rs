@@ -1,5 +1,7 @@
 //! The calls of the header, and one record of everything that a call can be handed and can write.
 
+pub use platemaker::{ERROR, MEASURES, OFF, ON, START_DOTS, START_ERROR, STATS, SWAPS};
+
 /// A row and a column.
 pub type Cell = (usize, usize);
 
@@ -74,17 +76,6 @@ impl Call {
         }
     }
 }
-
-/// The numbers in stats (the ledger).
-pub const START_ERROR: usize = 0;
-pub const ERROR: usize = 1;
-pub const START_DOTS: usize = 2;
-pub const ON: usize = 3;
-pub const OFF: usize = 4;
-pub const SWAPS: usize = 5;
-pub const STATS: usize = 6;
-/// How many measures a sheet has.
-pub const MEASURES: usize = 5;
 
 /// What a call is handed and where it writes. Each call takes its own part; the remainder has to stay as it is.
 #[derive(Clone, PartialEq, Debug, Default)]

@@ -7,3 +7,4 @@ pub mod handed;
 pub mod library;
 pub mod plain;
 pub mod sheet;
+pub mod vector;

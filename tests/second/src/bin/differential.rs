@@ -10,7 +10,7 @@
 
 use second::fault::Fault;
 use second::generate::{self, Random};
-use second::handed::{Call, Handed, ERROR, MEASURES, OFF, ON, START_DOTS, START_ERROR, STATS};
+use second::handed::{Call, Handed, ERROR, MEASURES, OFF, ON, START_DOTS, START_ERROR};
 use second::library;
 use second::plain::{self, Plate, Second};
 use second::sheet;
@@ -259,57 +259,10 @@ impl Run {
         }
     }
 
-    /// The examples of document 01.
+    /// The examples of document 01 that are no call, and so no vector.
     fn examples(&mut self) {
-        use Call::*;
-        let mut one = plate((1, 1), 0, &[1], &[255], &[0]);
-        self.compare(SquaredError, &mut one);
-        self.compare(Start, &mut one);
-        self.compare(TryToggle, &mut one);
-        self.expect("gray 255", one.error == 65025 && one.change == -65025);
-        for (gray, change, errors) in [(128, -255, [16384, 16129]), (127, 255, [16129, 16129])] {
-            let mut one = plate((1, 1), 0, &[1], &[gray], &[0]);
-            self.compare(Start, &mut one);
-            self.compare(TryToggle, &mut one);
-            self.expect("gray 127 and 128", one.change == change && one.stats[..2] == errors);
-        }
-
-        let mut row = plate((2, 1), 1, &[0, 0, 0, 1, 2, 1, 0, 0, 0], &[100, 100], &[0, 0]);
-        self.compare(Autocorrelation, &mut row);
-        self.expect("c along the row", row.autocorrelation[10..15] == [1, 4, 6, 4, 1]);
-        self.compare(Start, &mut row);
-        self.expect("gray 100 100", row.table == [-1000, -1000] && row.stats[ERROR] == 200_000);
-        self.compare(TryToggle, &mut row);
-        self.expect("toggle first", row.change == -119_850 && row.table == [530, 20] && row.stats[ERROR] == 80_150);
-        self.compare(TrySwap, &mut row);
-        self.expect("then swap", row.change == 0 && row.stats[..] == [200_000, 80_150, 0, 1, 0, 0]);
-
-        let mut given = plate((2, 1), 1, &[0, 0, 0, 1, 2, 1, 0, 0, 0], &[100, 130], &[1, 0]);
-        self.compare(Start, &mut given);
-        self.expect("gray 100 130", given.table == [410, -160] && given.stats[ERROR] == 84_350);
-        let mut settled = given.clone();
-        self.compare(TrySwap, &mut given);
-        let swapped = given.change == -30_600 && given.table == [-100, 350] && given.stats[ERROR] == 53_750;
-        self.expect("swap", swapped);
-        self.compare(Converge, &mut settled);
-        self.expect("settling it takes 4 scans", settled.scans == 4);
-
-        let mut lopsided = plate((1, 1), 1, &[0, 0, 0, 0, 1, 2, 0, 0, 0], &[0], &[0]);
-        self.compare(Autocorrelation, &mut lopsided);
-        self.expect("c of 1 2", lopsided.autocorrelation[10..15] == [0, 2, 5, 2, 0]);
         let corner = [(0, 0), (0, 1), (1, 0), (1, 1)].map(|(row, col)| plain::threshold(row, col));
         self.expect("thresholds", corner == [0, 128, 192, 64]);
-        for (gray, dots) in [(127, [1, 0]), (128, [1, 1])] {
-            let mut ordered = plate((2, 1), 0, &[1], &[gray, gray], &[0, 0]);
-            ordered.start = 1;
-            self.compare(Start, &mut ordered);
-            self.expect("kind 1", ordered.dots == dots);
-        }
-        for (last, number) in [(0, 0), (1, 6)] {
-            let mut largest = plate((1, 1), 1, &[255, 255, 255, 255, 4, 0, 0, 0, last], &[0], &[0]);
-            let answer = self.compare(Start, &mut largest);
-            self.expect("psf sums of 1,024 and 1,025", answer == number);
-        }
         let nearest = [(-1, -1), (-1, 1), (1, -1), (1, 1), (-1, 0), (0, -1), (0, 1), (1, 0)];
         self.expect("partners", plain::partners(1) == nearest && plain::partners(6).len() == 168);
         self.expect("the sheet of document 01", self.second.settle(SHEET) == PRINTED);
@@ -375,29 +328,9 @@ fn outcome(call: Call, answer: u32, before: &Handed, after: &Handed) -> Option<&
     }
 }
 
-/// A plate with dots given, and room for all results. A toggle is at the first cell, a swap with the second.
-fn plate((width, height): (usize, usize), radius: usize, psf: &[u8], gray: &[u8], dots: &[u8]) -> Handed {
-    Handed {
-        width,
-        height,
-        radius,
-        reach: 1,
-        start: 2,
-        psf: psf.to_vec(),
-        gray: gray.to_vec(),
-        dots: dots.to_vec(),
-        table: vec![0; gray.len()],
-        stats: vec![0; STATS],
-        col2: 1,
-        autocorrelation: vec![0; (4 * radius + 1).pow(2)],
-        ..Handed::default()
-    }
-}
-
 /// The sheet of document 01, and what the program prints for it.
-const SHEET: &[u8] = b"width height radius reach start\n2 1 1 1 0\npsf\n0 0 0\n1 2 1\n0 0 0\ngray\n100 100\n";
-const PRINTED: &[u8] = b"width height radius reach start\n2 1 1 1 2\npsf\n0 0 0\n1 2 1\n0 0 0\ngray\n100 100\n\
-    dots\n1 0\nbefore after on off swaps scans\n200000 80150 1 0 0 3\n";
+const SHEET: &[u8] = include_bytes!("../../../../crates/settle/stdin");
+const PRINTED: &[u8] = include_bytes!("../../../../crates/settle/stdout");
 
 /// The comparison.
 fn differential(seed: u64, rounds: u64) -> (u64, u64) {

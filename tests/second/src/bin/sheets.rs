@@ -1,16 +1,15 @@
 //! Runs the program `settle` on generated sheets, good and damaged, and holds all that it prints against the second
 //! implementation.
 //!
-//!     cargo run --offline --release --bin sheets [-- PATH_OF_SETTLE]
-//!
-//! PLATEMAKER_SEED=N repeats the run of a seed. The last line is 'N passed, M failed'.
+//!     sheets PATH_OF_SETTLE    the last line is 'N passed, M failed'; PLATEMAKER_SEED=N repeats the run of a seed
+//!     sheets --print           prints what `settle` has to print for standard input
 
 use second::generate::{self, Random};
 use second::handed::Handed;
 use second::plain::Second;
 use second::sheet::{self, PROGRAM_BYTES};
 use std::collections::BTreeMap;
-use std::io::{ErrorKind, Write};
+use std::io::{self, ErrorKind, Read, Write};
 use std::process::{Command, ExitCode, Stdio};
 use std::thread::sleep;
 use std::time::Duration;
@@ -81,16 +80,22 @@ fn kind(printed: &[u8]) -> String {
     }
 }
 
-fn main() -> ExitCode {
+/// Prints what `settle` has to print for standard input.
+fn print() -> io::Result<()> {
+    let mut input = Vec::new();
+    io::stdin().read_to_end(&mut input)?;
+    io::stdout().write_all(&Second::default().settle(&input))
+}
+
+fn compare(settle: &str) -> ExitCode {
     let seed = generate::seed();
-    let settle = std::env::args().nth(1).unwrap_or("../../target/bin/settle".to_string());
     println!("PLATEMAKER_SEED={seed}");
     let mut random = Random::new(seed);
     let (mut passed, mut failed, mut kinds) = (0, 0, BTreeMap::<String, u64>::new());
     for input in inputs(&mut random) {
         let wanted = Second::default().settle(&input);
         *kinds.entry(kind(&wanted)).or_default() += 1;
-        let got = printed(&settle, input.split_at(random.below(input.len() + 1)));
+        let got = printed(settle, input.split_at(random.below(input.len() + 1)));
         if got == wanted {
             passed += 1;
             continue;
@@ -108,4 +113,15 @@ fn main() -> ExitCode {
     }
     println!("{passed} passed, {failed} failed");
     ExitCode::from(u8::from(failed > 0))
+}
+
+fn main() -> ExitCode {
+    match std::env::args().nth(1).as_deref() {
+        Some("--print") => print().map_or(ExitCode::FAILURE, |()| ExitCode::SUCCESS),
+        Some(settle) => compare(settle),
+        None => {
+            eprintln!("usage: sheets PATH_OF_SETTLE | sheets --print");
+            ExitCode::from(2)
+        }
+    }
 }

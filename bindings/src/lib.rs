@@ -1,0 +1,244 @@
+//! The library platemaker for Rust. Each function of include/platemaker.h has a safe one here, without `pm_` in its name:
+//! a slice stands for a pointer and a length, a `&mut` number for a result. It answers 0, or the refusal number of
+//! document 01 (docs/GUIDE.md lists them). On a refusal nothing that was lent changes, save the offset of the two
+//! functions for sheets.
+//!
+//! Build the static library first, with `rt staticlib platemaker`.
+//!
+//! ```
+//! use platemaker::{converge, start, Measures, ERROR, STATS};
+//!
+//! let measures = Measures { width: 2, height: 1, radius: 1, reach: 1, start: 0 };
+//! let (psf, gray) = ([0, 0, 0, 1, 2, 1, 0, 0, 0], [100, 100]);
+//! let (mut dots, mut table, mut stats, mut scans) = ([0; 2], [0; 2], [0; STATS], 0);
+//! assert_eq!(start(measures, &psf, &gray, &mut dots, &mut table, &mut stats), 0);
+//! assert_eq!(converge(measures, &psf, &gray, &mut dots, &mut table, &mut stats, &mut scans), 0);
+//! assert_eq!((dots, stats[ERROR], scans), ([1, 0], 80_150, 3));
+//! ```
+
+#![allow(clippy::too_many_arguments)]
+
+mod header;
+
+/// The numbers in stats: the squared error at the start and now, the dots at the start, toggles on, toggles off, swaps.
+pub const START_ERROR: usize = 0;
+pub const ERROR: usize = 1;
+pub const START_DOTS: usize = 2;
+pub const ON: usize = 3;
+pub const OFF: usize = 4;
+pub const SWAPS: usize = 5;
+/// How many numbers there are in stats.
+pub const STATS: usize = 6;
+
+/// The numbers in measures, which [`read_sheet`] fills.
+pub const WIDTH: usize = 0;
+pub const HEIGHT: usize = 1;
+pub const RADIUS: usize = 2;
+pub const REACH: usize = 3;
+pub const START: usize = 4;
+/// How many numbers there are in measures.
+pub const MEASURES: usize = 5;
+
+/// What a plate is measured by: width and height, 1 to 256; the radius of its psf, 0 to 3; the reach of a swap in a scan,
+/// 0 to 6; the kind of start, 0 blank, 1 ordered, 2 the dots given.
+#[derive(Clone, Copy, PartialEq, Eq, Debug, Default)]
+pub struct Measures {
+    pub width: usize,
+    pub height: usize,
+    pub radius: usize,
+    pub reach: usize,
+    pub start: usize,
+}
+
+impl From<[usize; MEASURES]> for Measures {
+    fn from(numbers: [usize; MEASURES]) -> Measures {
+        Measures {
+            width: numbers[WIDTH],
+            height: numbers[HEIGHT],
+            radius: numbers[RADIUS],
+            reach: numbers[REACH],
+            start: numbers[START],
+        }
+    }
+}
+
+// SAFETY of every call below: a pointer is that of a slice or of a number, so it is not null, and comes with the slice's own
+// length. What is written overlaps nothing else, since it is borrowed mutably; what is only read may be one slice twice.
+
+/// The autocorrelation of a psf: (4 * radius + 1)^2 numbers, row by row, offsets rising from -2 * radius. Draws 2, 5, 6.
+pub fn autocorrelation(radius: usize, psf: &[u8], out: &mut [i32]) -> u32 {
+    unsafe { header::pm_autocorrelation(radius, psf.as_ptr(), psf.len(), out.as_mut_ptr(), out.len()) }
+}
+
+/// The filtered error of every cell (document 01's table), into table. Draws 1, 2, 5, 6, 7.
+pub fn filtered_error(
+    width: usize,
+    height: usize,
+    radius: usize,
+    psf: &[u8],
+    gray: &[u8],
+    dots: &[u8],
+    table: &mut [i32],
+) -> u32 {
+    unsafe {
+        header::pm_filtered_error(
+            width,
+            height,
+            radius,
+            psf.as_ptr(),
+            psf.len(),
+            gray.as_ptr(),
+            gray.len(),
+            dots.as_ptr(),
+            dots.len(),
+            table.as_mut_ptr(),
+            table.len(),
+        )
+    }
+}
+
+/// The squared error, into error. Draws 1, 2, 5, 6, 7.
+pub fn squared_error(
+    width: usize,
+    height: usize,
+    radius: usize,
+    psf: &[u8],
+    gray: &[u8],
+    dots: &[u8],
+    error: &mut i64,
+) -> u32 {
+    unsafe {
+        header::pm_squared_error(
+            width,
+            height,
+            radius,
+            psf.as_ptr(),
+            psf.len(),
+            gray.as_ptr(),
+            gray.len(),
+            dots.as_ptr(),
+            dots.len(),
+            error,
+        )
+    }
+}
+
+/// Declares the calls on a plate. Each takes all measures and the plate's slices, then what is its own.
+macro_rules! plate_calls {
+    ($($(#[$doc:meta])* $name:ident, $function:ident($($own:ident: $type:ty),*);)*) => {
+        $($(#[$doc])*
+        pub fn $name(
+            measures: Measures,
+            psf: &[u8],
+            gray: &[u8],
+            dots: &mut [u8],
+            table: &mut [i32],
+            stats: &mut [i64],
+            $($own: $type),*
+        ) -> u32 {
+            unsafe {
+                header::$function(
+                    measures.width,
+                    measures.height,
+                    measures.radius,
+                    measures.reach,
+                    measures.start,
+                    psf.as_ptr(),
+                    psf.len(),
+                    gray.as_ptr(),
+                    gray.len(),
+                    dots.as_mut_ptr(),
+                    dots.len(),
+                    table.as_mut_ptr(),
+                    table.len(),
+                    stats.as_mut_ptr(),
+                    stats.len(),
+                    $($own),*
+                )
+            }
+        })*
+    };
+}
+
+plate_calls! {
+    /// A start of the kind given: writes dots (with kind 2 they are read and stay), table and fresh stats. Draws 1 to 7.
+    start, pm_start();
+
+    /// An attempt to toggle the dot at (row, col). change is what the toggle adds to the squared error. Below 0 it was
+    /// accepted: dots, table and stats have changed. Else it was declined, and they have not. Draws 1 to 8, 20, 21.
+    try_toggle, pm_try_toggle(row: usize, col: usize, change: &mut i64);
+
+    /// An attempt to swap the dots at (row, col) and (row2, col2); change as above. Draws 1 to 9, 20, 21, 22.
+    try_swap, pm_try_swap(row: usize, col: usize, row2: usize, col2: usize, change: &mut i64);
+
+    /// A toggle scan: a toggle is attempted at every cell, row by row. changes is how many were accepted. Draws 1 to 7,
+    /// 20, 21.
+    toggle_scan, pm_toggle_scan(changes: &mut u64);
+
+    /// A swap scan: at every cell, row by row, the swaps with the cells within reach are attempted, farthest first, up to
+    /// the first that is accepted. changes is how many were accepted. Draws 1 to 7, 20, 21.
+    swap_scan, pm_swap_scan(changes: &mut u64);
+
+    /// A settling: toggle scans until one accepts nothing, then a swap scan; if that accepted something, again. scans is
+    /// how many scans were made. Draws 1 to 7, 20, 21.
+    converge, pm_converge(scans: &mut u64);
+}
+
+/// Reads a sheet to the front of the slices; what lies past it stays. With start 0 or 1 dots are not touched. Draws 5
+/// (measures of another length than [`MEASURES`]) and 10, 11, 12 with the byte offset, which is written only then.
+pub fn read_sheet(
+    bytes: &[u8],
+    psf: &mut [u8],
+    gray: &mut [u8],
+    dots: &mut [u8],
+    measures: &mut [usize],
+    offset: &mut usize,
+) -> u32 {
+    unsafe {
+        header::pm_read_sheet(
+            bytes.as_ptr(),
+            bytes.len(),
+            psf.as_mut_ptr(),
+            psf.len(),
+            gray.as_mut_ptr(),
+            gray.len(),
+            dots.as_mut_ptr(),
+            dots.len(),
+            measures.as_mut_ptr(),
+            measures.len(),
+            offset,
+        )
+    }
+}
+
+/// Writes a sheet with start 2 to the front of out, and its length. Draws 1 to 5, 7, and 12 where out is too short. The
+/// offset is written only on a refusal, the length only on success.
+pub fn write_sheet(
+    measures: Measures,
+    psf: &[u8],
+    gray: &[u8],
+    dots: &[u8],
+    out: &mut [u8],
+    length: &mut usize,
+    offset: &mut usize,
+) -> u32 {
+    unsafe {
+        header::pm_write_sheet(
+            measures.width,
+            measures.height,
+            measures.radius,
+            measures.reach,
+            measures.start,
+            psf.as_ptr(),
+            psf.len(),
+            gray.as_ptr(),
+            gray.len(),
+            dots.as_ptr(),
+            dots.len(),
+            out.as_mut_ptr(),
+            out.len(),
+            length,
+            offset,
+        )
+    }
+}
