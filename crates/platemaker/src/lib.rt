@@ -9,14 +9,14 @@ ghost use Rattle.model.specs.Interface.{changeOf, triedNumbers, scanNumbers, co
 ghost use Rattle.model.specs.Interface.{sheetStatus, offsetAfter, sheetAfter, measureNumbers, readOver};
 ghost use Rattle.model.specs.SheetCalls.{readingOf, writeCall};
 use model::Measures;
-use platemaker_answers::lay_attempt;
-use platemaker_answers::lay_converged;
 use platemaker_answers::lay_filled;
 use platemaker_answers::lay_reading;
-use platemaker_answers::lay_scan;
 use platemaker_answers::lay_squared_error;
-use platemaker_answers::lay_start;
 use platemaker_answers::lay_writing;
+use platemaker_ledgers::lay_attempt;
+use platemaker_ledgers::lay_converged;
+use platemaker_ledgers::lay_scan;
+use platemaker_ledgers::lay_start;
 use platemaker_numbers::judge_slice;
 use platemaker_numbers::stats_of;
 

@@ -16,7 +16,8 @@ use Rattle.model.specs.Error.{cellAt}
 use Rattle.model.specs.Partners.{worthAt}
 use Rattle.model.specs.Window.{Small}
 use Rattle.search_partners.proofs.Worths.{worth-small}
-use Rattle.search_prune.specs.Grid.{worthIn, HoldsGrid, Fails, RunClear, RowsClear}
+use Rattle.search_runs.specs.Run.{Fails}
+use Rattle.search_prune.specs.Grid.{worthIn, HoldsGrid, RunClear, RowsClear}
 
 module _ (radius : ℕ) (c : List ℤ) (reach side : ℕ) where
   -- one more entry
@@ -40,10 +41,6 @@ module _ (radius : ℕ) (c : List ℤ) (reach side : ℕ) where
       go false = lit≤ tt
 
 -- ---- trials that fail
-pub and-false : (a : Bool) {b : Bool} → b ≡ false → a && b ≡ false
-and-false true e = e
-and-false false e = refl
-
 module _ (dots : List ℕ) (table grid : List ℤ) (m : ℕ) where
   -- one cell more in a row
   pub run-next : {from at k : ℕ} → RunClear dots table grid m from at k

@@ -1,18 +1,16 @@
 -- What the offsets within reach are worth, laid out in rows, and what it means that every trial in them fails. The
 -- rows may be longer than the reach asks, so that a row is a round number of entries.
-use mathlib.Core.Bool.{false, not, _&&_}
 use mathlib.Core.List.{List}
 use mathlib.Core.Path.{_≡_}
 use Prim.Native.Nat.{ℕ, _+_, _*_, _-_, _/_, _%_, _≤_, _<_}
-use lib.Dec.{leb, eqb}
-use lib.IntN.{ℤ, pos, _+ℤ_, _-ℤ_, _*ℤ_}
+use lib.Dec.{leb}
+use lib.IntN.{ℤ, pos}
 use lib.ListN.{length, getD}
-use lib.Signed.{ltZ}
 use Rattle.model.specs.Basic.{pick}
-use Rattle.model.specs.Change.{sign}
 use Rattle.model.specs.Error.{cellAt}
 use Rattle.model.specs.Partners.{worthAt}
 use Rattle.model.specs.Window.{Small}
+use Rattle.search_runs.specs.Run.{Fails}
 
 module _ (radius : ℕ) (c : List ℤ) (reach side : ℕ) where
   -- entry q of rows of `side`: what the offset (q / side - reach, q % side - reach) is worth, and past the reach a
@@ -35,14 +33,7 @@ pub record GridFits (radius : ℕ) (c : List ℤ) (reach side : ℕ) (grid : Lis
   pub small : Small 1048576 c
   pub holds : HoldsGrid radius c reach side ((2 * reach + 1) * side) grid
 
--- a trial of the cells m and n, by the table: their dots are alike, or s(m) × (T(m) - T(n)) + worth is not below 0
-abbrev pub Fails : (dots : List ℕ) (table : List ℤ) (m n : ℕ) (worth : ℤ) → Type 0
-Fails dots table m n worth =
-    not (eqb (getD dots m 0) (getD dots n 0))
-    && ltZ (sign dots m *ℤ (getD table m (pos 0) -ℤ getD table n (pos 0)) +ℤ worth) (pos 0)
-    ≡ false
-
--- so it is with each of the n cells from `from` on, the worths standing from `at` on
+-- the trial of m with each of the n cells from `from` on fails, the worths standing from `at` on
 pub record RunClear (dots : List ℕ) (table grid : List ℤ) (m from at n : ℕ) : Type 0 where
   pub each : (k : ℕ) → k < n → Fails dots table m (from + k) (getD grid (at + k) (pos 0))
 

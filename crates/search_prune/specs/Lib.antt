@@ -1,3 +1,2 @@
--- What the quick tests rest on and show.
+-- What the quick test rests on and shows.
 pub mod Grid
-pub mod Run

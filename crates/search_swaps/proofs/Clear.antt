@@ -20,8 +20,8 @@ use Rattle.model.specs.Refusal.{HalftoneFits}
 use Rattle.model.specs.Scan.{suits, swaps, sweepOf, visit}
 use Rattle.model.specs.Window.{HoldsKernel}
 use Rattle.model.proofs.Partners.{Within, itself, entry-within}
-use Rattle.search_prune.specs.Grid.{worthIn, GridFits, Fails, RowsClear}
-use Rattle.search_prune.specs.Run.{CellsClear}
+use Rattle.search_prune.specs.Grid.{worthIn, GridFits, RowsClear}
+use Rattle.search_runs.specs.Run.{Fails, CellsClear}
 use Rattle.search_toggles.proofs.Visit.{swaps-over}
 use Rattle.search_swaps.proofs.Partner.{landed, stands, trial-is}
 use Rattle.search_swaps.proofs.Trials.{all-failed}

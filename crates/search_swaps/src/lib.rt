@@ -26,7 +26,7 @@ use search_partners::weigh_offsets;
 use search_prune::lay_worths;
 use search_prune::may_lower;
 use search_prune::side_of;
-use search_prune::swaps_clear;
+use search_runs::swaps_clear;
 use search_toggles::least;
 use search_toggles::run_end;
 use search_trial::make_swap;

@@ -19,7 +19,7 @@ use search_change::peak;
 use search_partners::Cell;
 use search_partners::ahead;
 use search_partners::next;
-use search_prune::any_toggles;
+use search_runs::any_toggles;
 use search_trial::make_toggle;
 use search_trial::weigh_toggle;
 

@@ -12,8 +12,8 @@ use mir.Val.{ofZ}
 use Rattle.algebra.proofs.Machine.{Holds, named, of-small, add-fits, add-holds}
 use Rattle.model.specs.Change.{sign}
 use Rattle.search_prune.specs.Grid.{RunClear}
-use Rattle.search_prune.proofs.Run.{either}
-use Rattle.search_prune.proofs.Grid.{and-false, run-next}
+use Rattle.search_runs.proofs.Run.{either, and-false}
+use Rattle.search_prune.proofs.Grid.{run-next}
 use Rattle.search_prune.proofs.any_below.Statement.{statement}
 use Rattle.search_prune.proofs.any_below.Tie as tie
 

@@ -13,12 +13,10 @@ use mir.Syntax.{w32}
 use mir.Val.{toZ, ofZ}
 use Rattle.algebra.proofs.Machine.{Holds, named, of-small, add-fits, add-holds}
 use Rattle.model.specs.Change.{sign}
-use Rattle.search_prune.specs.Grid.{Fails}
-use Rattle.search_prune.specs.Run.{SwapsClear}
-use Rattle.search_prune.proofs.Grid.{and-false}
-use Rattle.search_prune.proofs.Run.{either, swaps-next}
-use Rattle.search_prune.proofs.any_swaps.Statement.{statement}
-use Rattle.search_prune.proofs.any_swaps.Tie as tie
+use Rattle.search_runs.specs.Run.{Fails, SwapsClear}
+use Rattle.search_runs.proofs.Run.{either, and-false, swaps-next}
+use Rattle.search_runs.proofs.any_swaps.Statement.{statement}
+use Rattle.search_runs.proofs.any_swaps.Tie as tie
 
 abbrev Inv-loop : tie.InvT-loop
 Inv-loop dots table worth from to n hits₀ k₀ hits k =

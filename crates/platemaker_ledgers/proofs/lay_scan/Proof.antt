@@ -1,8 +1,8 @@
--- `platemaker_answers::lay_converged` meets its contract, case by case of the answer.
+-- `platemaker_ledgers::lay_scan` meets its contract, case by case of the answer.
 use mathlib.Core.Path.{refl}
 use borrow.Author.Needs.{needs}
-use Rattle.platemaker_answers.proofs.lay_converged.Statement.{statement}
-use Rattle.platemaker_answers.proofs.lay_converged.Tie as tie
+use Rattle.platemaker_ledgers.proofs.lay_scan.Statement.{statement}
+use Rattle.platemaker_ledgers.proofs.lay_scan.Tie as tie
 
 enum-known-answer : tie.Need-enum-known-answer
 enum-known-answer c = search needs
@@ -27,8 +27,8 @@ returns c =
 returns-2 : tie.Need-returns-2
 returns-2 c = search needs
 
-pub lay-converged-spec : {M : Type 1} → statement M
-lay-converged-spec =
+pub lay-scan-spec : {M : Type 1} → statement M
+lay-scan-spec =
     tie.close
     (tie.spec
     enum-known-answer

@@ -1,9 +1,9 @@
--- `platemaker_answers::lay_attempt` meets its contract, case by case of the answer.
+-- `platemaker_ledgers::lay_attempt` meets its contract, case by case of the answer.
 use mathlib.Core.Path.{refl}
 use borrow.Author.Needs.{needs}
 use Rattle.platemaker_numbers.proofs.Laws.{held-whole}
-use Rattle.platemaker_answers.proofs.lay_attempt.Statement.{statement}
-use Rattle.platemaker_answers.proofs.lay_attempt.Tie as tie
+use Rattle.platemaker_ledgers.proofs.lay_attempt.Statement.{statement}
+use Rattle.platemaker_ledgers.proofs.lay_attempt.Tie as tie
 
 enum-known-answer : tie.Need-enum-known-answer
 enum-known-answer c = search needs

@@ -10,11 +10,11 @@ use lib.ListN.{getD}
 use mir.Syntax.{w32}
 use mir.Val.{toZ, ofZ}
 use Rattle.algebra.proofs.Machine.{of-small, size-of, factors-fit, Holds}
-use Rattle.search_prune.specs.Run.{SwapsClear, CellsClear}
-use Rattle.search_prune.proofs.Run.{cells-next}
+use Rattle.search_runs.specs.Run.{SwapsClear, CellsClear}
+use Rattle.search_runs.proofs.Run.{cells-next}
 use Rattle.filter_window.proofs.Rows.{index-fits}
-use Rattle.search_prune.proofs.swaps_clear.Statement.{statement}
-use Rattle.search_prune.proofs.swaps_clear.Tie as tie
+use Rattle.search_runs.proofs.swaps_clear.Statement.{statement}
+use Rattle.search_runs.proofs.swaps_clear.Tie as tie
 
 abbrev Inv-loop : tie.InvT-loop
 Inv-loop width downs rights worths count dots table n row col m back j₀ j =

@@ -1,8 +1,8 @@
--- `platemaker_answers::lay_scan` meets its contract, case by case of the answer.
+-- `platemaker_ledgers::lay_start` meets its contract, case by case of the answer.
 use mathlib.Core.Path.{refl}
 use borrow.Author.Needs.{needs}
-use Rattle.platemaker_answers.proofs.lay_scan.Statement.{statement}
-use Rattle.platemaker_answers.proofs.lay_scan.Tie as tie
+use Rattle.platemaker_ledgers.proofs.lay_start.Statement.{statement}
+use Rattle.platemaker_ledgers.proofs.lay_start.Tie as tie
 
 enum-known-answer : tie.Need-enum-known-answer
 enum-known-answer c = search needs
@@ -22,13 +22,13 @@ same-length c = search needs
 returns : tie.Need-returns
 returns c =
     let p = c .before in
-    rw (p .before .before .before .answer .given .1) (refl, p .store-stats .ensures, refl)
+    rw (p .before .before .before .answer .given .1) (refl, p .store-stats .ensures)
 
 returns-2 : tie.Need-returns-2
 returns-2 c = search needs
 
-pub lay-scan-spec : {M : Type 1} → statement M
-lay-scan-spec =
+pub lay-start-spec : {M : Type 1} → statement M
+lay-start-spec =
     tie.close
     (tie.spec
     enum-known-answer

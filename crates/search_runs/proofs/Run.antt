@@ -1,8 +1,8 @@
 -- A run of cells where nothing is accepted, one cell after the other.
-use mathlib.Core.Bool.{false}
+use mathlib.Core.Bool.{Bool, true, false, _&&_}
 use mathlib.Core.List.{List}
 use mathlib.Core.Logic.{_⊎_, inl, inr}
-use mathlib.Core.Path.{_≡_, sym, _∙_, ap, subst}
+use mathlib.Core.Path.{_≡_, refl, sym, _∙_, ap, subst}
 use Prim.Native.Nat.{ℕ, _+_, _*_, _-_, _≤_, _<_}
 use native.Mathlib.Nat.{sub-add-cancel, add-mul}
 use native.Mathlib.Decide.{ℕ-discrete}
@@ -12,13 +12,17 @@ use lib.ListN.{getD}
 use lib.Signed.{ltZ}
 use Rattle.model.specs.Change.{sign, toggleSum}
 use Rattle.model.specs.Error.{cellAt}
-use Rattle.search_prune.specs.Grid.{Fails}
-use Rattle.search_prune.specs.Run.{TogglesClear, SwapsClear, CellsClear}
+use Rattle.search_runs.specs.Run.{Fails, TogglesClear, SwapsClear, CellsClear}
 
 -- how a branch was left
 pub either : {A B C : Type 0} → A ⊎ B → (A → C) → (B → C) → C
 either (inl a) f g = f a
 either (inr b) f g = g b
+
+-- a conjunction of which the second fails
+pub and-false : (a : Bool) {b : Bool} → b ≡ false → a && b ≡ false
+and-false true e = e
+and-false false e = refl
 
 -- one cell more
 pub toggles-next : (peak : ℤ) (dots : List ℕ) (table : List ℤ) (from k : ℕ) → TogglesClear peak dots table from k

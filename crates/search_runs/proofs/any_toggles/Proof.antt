@@ -16,10 +16,10 @@ use Rattle.algebra.proofs.Machine.{Holds, literal, of-small, named, size-of, ad
 use Rattle.model.specs.Change.{sign, toggleSum}
 use Rattle.model.specs.Window.{mostFiltered}
 use Rattle.search_change.proofs.Laws.{signed-holds, multiple-sign}
-use Rattle.search_prune.specs.Run.{TogglesClear}
-use Rattle.search_prune.proofs.Run.{either, toggles-next}
-use Rattle.search_prune.proofs.any_toggles.Statement.{statement}
-use Rattle.search_prune.proofs.any_toggles.Tie as tie
+use Rattle.search_runs.specs.Run.{TogglesClear}
+use Rattle.search_runs.proofs.Run.{either, toggles-next}
+use Rattle.search_runs.proofs.any_toggles.Statement.{statement}
+use Rattle.search_runs.proofs.any_toggles.Tie as tie
 
 abbrev Inv-loop : tie.InvT-loop
 Inv-loop peak dots table from n limit any₀ k₀ any k =

@@ -1,0 +1,2 @@
+-- What the quick tests of runs show.
+pub mod Run
