@@ -1,7 +1,7 @@
 -- The ledger that a call answers can be stored: later calls accept it, so its counts are few.
 use mathlib.Core.List.{List}
 use mathlib.Core.Path.{_≡_, refl}
-use Prim.Native.Nat.{ℕ, zero, suc, _*_, _≤_}
+use Prim.Native.Nat.{ℕ, zero, suc}
 use native.Mathlib.Omega.{arith}
 use lib.IntN.{ℤ}
 use lib.ListN.{length}
@@ -16,7 +16,7 @@ use Rattle.model.specs.Reference.{Tried, accepted, declined, Performed}
 use Rattle.model.specs.Calls.{result, unless, withTable, startCall, laterCall}
 use Rattle.model.specs.Calls.{toggleCall, swapCall, toggleScanCall, swapScanCall, convergeCall}
 use Rattle.model.specs.Lists.{Call, toggleAt, swapAt, toggleScan, swapScan, convergence}
-use Rattle.model.specs.Lists.{Result, tried, swept, rested, Held, latest, answering, handOn, call}
+use Rattle.model.specs.Lists.{Result, tried, swept, rested, Held, latest, answering, call}
 use Rattle.model.proofs.Halftone.{few-cells}
 use Rattle.model.proofs.Later.{later-enters, toggle-enters, swap-enters}
 use Rattle.model.proofs.Lists.{call-later}

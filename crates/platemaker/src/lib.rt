@@ -7,7 +7,7 @@ ghost use Rattle.model.specs.Interface.{status, after, numbers};
 ghost use Rattle.model.specs.Interface.{startOver, toggleOver, swapOver, toggleScanOver, swapScanOver, convergeOver};
 ghost use Rattle.model.specs.Interface.{changeOf, triedNumbers, scanNumbers, convergeNumbers};
 ghost use Rattle.model.specs.Interface.{sheetStatus, offsetAfter, sheetAfter, measureNumbers, readOver};
-ghost use Rattle.model.specs.SheetCalls.{readingOf, writeCall};
+ghost use Rattle.model.specs.SheetCalls.{writeCall};
 use model::Measures;
 use platemaker_answers::lay_filled;
 use platemaker_answers::lay_reading;

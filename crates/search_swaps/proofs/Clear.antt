@@ -1,25 +1,24 @@
 -- Rows in which every trial fails hold no partner that lowers E: what the quick test shows of the trials of a cell.
 use mathlib.Core.Bool.{Bool, true, false, _&&_}
 use mathlib.Core.List.{List, [], _∷_}
-use mathlib.Core.Path.{_≡_, refl, sym, _∙_, ap, ap₂, subst}
+use mathlib.Core.Path.{_≡_, refl, sym, _∙_, subst}
 use Prim.Native.Nat.{ℕ, _+_, _*_, _-_, _≤_, _<_}
 use native.Mathlib.Nat.{le-refl, le-of-eq}
 use native.Mathlib.Omega.{arith}
 use borrow.Author.Tests.{le-leb}
 use lib.IntN.{ℤ, pos, negsuc, natAbs, _-ℤ_}
-use lib.ListN.{length, getD}
+use lib.ListN.{getD}
 use Rattle.algebra.proofs.Grid.{cell<, cell-row, cell-column}
 use Rattle.algebra.proofs.Order.{read≡}
 use Rattle.algebra.proofs.Solver.{reify}
-use Rattle.model.specs.Basic.{pick}
 use Rattle.model.specs.Error.{Target, targetOf, cellAt, filteredErrors}
 use Rattle.model.specs.declared.ScanResult.{ScanResult}
-use Rattle.model.specs.Partners.{offsets, biased, lands, partner, worthAt, HoldsOffsets, HoldsWorths}
+use Rattle.model.specs.Partners.{biased, lands, partner, worthAt, HoldsOffsets, HoldsWorths}
 use Rattle.model.specs.Reference.{swap, lowers}
 use Rattle.model.specs.Refusal.{HalftoneFits}
 use Rattle.model.specs.Scan.{suits, swaps, sweepOf, visit}
 use Rattle.model.specs.Window.{HoldsKernel}
-use Rattle.model.proofs.Partners.{Within, itself, entry-within}
+use Rattle.model.proofs.Partners.{Within, entry-within}
 use Rattle.search_prune.specs.Grid.{worthIn, GridFits, RowsClear}
 use Rattle.search_runs.specs.Run.{Fails, CellsClear}
 use Rattle.search_toggles.proofs.Visit.{swaps-over}

@@ -4,7 +4,7 @@ ghost use Prim.Native.Nat.{_≤_};
 ghost use lib.IntN.{pos};
 ghost use lib.ListN.{length, take, replicate};
 ghost use lib.Seq.{sets};
-ghost use Rattle.model.specs.Calls.{result, Buffers};
+ghost use Rattle.model.specs.Calls.{result};
 ghost use Rattle.model.specs.Sheet.{entriesOf, cellsOf, InRange, Shaped};
 ghost use Rattle.model.specs.SheetCalls.{writtenSheet};
 ghost use Rattle.model.specs.Program.{convergedText, startedText, processedText, output};

@@ -7,7 +7,7 @@ ghost use Prim.Native.Nat.{_≤_, _<_};
 ghost use lib.ListN.{length, getD};
 ghost use lib.Seq.{sets};
 ghost use Rattle.model.specs.Text.{isLetter};
-ghost use Rattle.model.specs.Format.{endOf, grid, block, isAt, fixedAt, place, fieldAt, parse, placeOf};
+ghost use Rattle.model.specs.Format.{endOf, grid, block, isAt, fixedAt, fieldAt, parse, placeOf};
 ghost use Rattle.model.specs.Format.{fixed, parseNext, fieldNext};
 use model::Field;
 use model::Item;

@@ -5,7 +5,7 @@ ghost use Prim.Native.Nat.{_+_, _≤_};
 ghost use lib.ListN.{length};
 ghost use lib.Seq.{sets};
 ghost use Rattle.model.specs.Text.{digits};
-ghost use Rattle.model.specs.Sheet.{row, names, valuesOf, sideOf, sheetText, InRange, Shaped};
+ghost use Rattle.model.specs.Sheet.{row, names, valuesOf, sheetText, InRange, Shaped};
 ghost use Rattle.model.specs.Format.{gridText, gridLength};
 ghost use Rattle.model.specs.SheetCalls.{withGiven, writtenSheet};
 use model::Measures;

@@ -9,7 +9,7 @@ use lib.IntN.{ℤ, pos, _+ℤ_, _-ℤ_, _*ℤ_}
 use lib.ListN.{getD}
 use lib.Signed.{ltZ}
 use mir.Syntax.{w32}
-use mir.Val.{toZ, ofZ}
+use mir.Val.{ofZ}
 use Rattle.algebra.proofs.Machine.{Holds, of-small, size-of}
 use Rattle.model.specs.Change.{sign}
 use Rattle.search_prune.specs.Grid.{RunClear}

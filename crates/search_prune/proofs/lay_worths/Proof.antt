@@ -1,15 +1,15 @@
 -- `search_prune::lay_worths` meets its contract: entry by entry.
 use mathlib.Core.Path.{_≡_, refl, sym, _∙_, subst}
-use Prim.Native.Nat.{ℕ, _+_, _*_, _-_, _≤_, _<_}
+use Prim.Native.Nat.{_-_, _≤_, _<_}
 use native.Mathlib.Nat.{le-antisymm, not-suc-le-zero}
 use native.Mathlib.Omega.{arith}
 use lib.Dec.{lit<}
-use lib.IntN.{ℤ, pos, natAbs}
-use lib.ListN.{length, getD, length-set}
+use lib.IntN.{ℤ, natAbs}
+use lib.ListN.{length, length-set}
 use mir.Syntax.{w32}
 use Rattle.algebra.proofs.Machine.{of-small, factors-fit}
 use Rattle.model.proofs.Window.{square-small}
-use Rattle.search_prune.specs.Grid.{worthIn, HoldsGrid}
+use Rattle.search_prune.specs.Grid.{HoldsGrid}
 use Rattle.search_prune.proofs.Grid.{grid-next, worth-in-small}
 use Rattle.search_prune.proofs.lay_worths.Statement.{statement}
 use Rattle.search_prune.proofs.lay_worths.Tie as tie

@@ -1,6 +1,5 @@
 -- `search_prune::any_toggles` meets its contract: as long as nothing was found, no toggle so far is accepted.
 use mathlib.Core.Bool.{true, false, true≢false}
-use mathlib.Core.Logic.{_⊎_, inl, inr}
 use mathlib.Core.Path.{_≡_, sym, _∙_}
 use Prim.Native.Nat.{ℕ, _+_, _-_, _≤_, _<_}
 use native.Mathlib.Nat.{le-trans, not-suc-le-zero}

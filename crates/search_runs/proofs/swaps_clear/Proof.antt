@@ -1,16 +1,16 @@
 -- `search_prune::swaps_clear` meets its contract: at the offsets so far every trial of the run fails.
 use mathlib.Core.Bool.{true, false, true≢false}
-use mathlib.Core.Path.{_≡_, sym, _∙_, subst}
+use mathlib.Core.Path.{_≡_, sym}
 use Prim.Native.Nat.{ℕ, _+_, _*_, _-_, _≤_, _<_}
 use native.Mathlib.Nat.{mul-le-mul, not-suc-le-zero}
 use native.Mathlib.Omega.{arith}
 use lib.Dec.{lit<}
-use lib.IntN.{ℤ, pos, natAbs}
+use lib.IntN.{pos}
 use lib.ListN.{getD}
 use mir.Syntax.{w32}
-use mir.Val.{toZ, ofZ}
+use mir.Val.{ofZ}
 use Rattle.algebra.proofs.Machine.{of-small, size-of, factors-fit, Holds}
-use Rattle.search_runs.specs.Run.{SwapsClear, CellsClear}
+use Rattle.search_runs.specs.Run.{CellsClear}
 use Rattle.search_runs.proofs.Run.{cells-next}
 use Rattle.filter_window.proofs.Rows.{index-fits}
 use Rattle.search_runs.proofs.swaps_clear.Statement.{statement}
