@@ -1,3 +1,3 @@
 -- The laws that the proofs of the crate's functions cite.
-mod Laws
+mod Laid
 mod Ledgers

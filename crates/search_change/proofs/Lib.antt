@@ -1,2 +1,2 @@
 -- What the proofs of this crate share.
-pub mod Laws
+pub mod Signs

@@ -23,8 +23,8 @@ use Rattle.model.specs.Window.{HoldsKernel}
 use Rattle.model.proofs.Partners.{lands-on}
 use Rattle.model.proofs.State.{below}
 use Rattle.search_partners.proofs.Landing.{lands-is, partner-is}
-use Rattle.search_change.proofs.Laws.{multiple-sign}
-use Rattle.search_trial.proofs.Laws.{swap-is}
+use Rattle.search_change.proofs.Signs.{multiple-sign}
+use Rattle.search_trial.proofs.Weighed.{swap-is}
 
 -- ---- along one coordinate: d - 6 on from place a
 inside-by : (limit a d : ℕ) → inside limit (pos a +ℤ (pos d -ℤ pos 6)) ≡ true → (6 ≤ a + d) × (a + d < limit + 6)

@@ -1,2 +1,2 @@
 -- Laws that the proofs of this crate share.
-pub mod Laws
+pub mod Weighed

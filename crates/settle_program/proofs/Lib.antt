@@ -1,2 +1,2 @@
 -- The laws that the proofs of the crate's functions cite.
-mod Laws
+mod Texts

@@ -1,2 +1,2 @@
 -- The laws that the proofs of the crate's functions cite.
-pub mod Laws
+pub mod Lengths

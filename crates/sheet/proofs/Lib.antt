@@ -1,2 +1,2 @@
 -- What the proofs of reading and writing a sheet share.
-pub mod Laws
+pub mod Outcomes

@@ -1,2 +1,2 @@
 -- What the proofs of the fields share.
-pub mod Laws
+pub mod Parts

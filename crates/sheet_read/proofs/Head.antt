@@ -18,7 +18,7 @@ use Rattle.model.specs.Sheet.{names}
 use Rattle.model.specs.Format.{Part, fixed, number, head, isAt, place, fixedAt, field, fieldBy, fieldAt}
 use Rattle.model.specs.Format.{Parsed, parsed, parse, parseNext, fieldNext, measuresOf, headOf}
 use Rattle.model.proofs.Basic.{pick-cases}
-use Rattle.sheet_fields.proofs.Laws.{next-on, place-fixed, next-fixed}
+use Rattle.sheet_fields.proofs.Parts.{next-on, place-fixed, next-fixed}
 
 -- ---- line 1
 -- a name after what was read

@@ -1,3 +1,3 @@
 -- What the proofs of the blocks share.
 pub mod Head
-pub mod Laws
+pub mod Blocks

@@ -1,2 +1,2 @@
 -- What the proofs of the numbers in decimal share.
-pub mod Laws
+pub mod Digits

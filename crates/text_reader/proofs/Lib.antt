@@ -1,2 +1,2 @@
 -- What the proofs of the reader share.
-pub mod Laws
+pub mod Items

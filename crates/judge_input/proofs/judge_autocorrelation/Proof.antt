@@ -6,7 +6,7 @@ use native.Mathlib.Omega.{arith}
 use borrow.Author.Needs.{needs}
 use Rattle.model.specs.Refusal.{autocorrelationRefusal}
 use Rattle.algebra.proofs.Machine.{factors-fit}
-use Rattle.judge_parts.proofs.Laws.{tests}
+use Rattle.judge_parts.proofs.Tests.{tests}
 use Rattle.judge_input.proofs.judge_autocorrelation.Statement.{statement}
 use Rattle.judge_input.proofs.judge_autocorrelation.Tie as tie
 

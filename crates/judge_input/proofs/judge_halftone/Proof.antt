@@ -6,7 +6,7 @@ use borrow.Author.Needs.{needs}
 use lib.ListN.{length}
 use Rattle.model.specs.Refusal.{Refusal, badSize, badRadius, badLength, badSum, badDot, halftoneRefusal}
 use Rattle.model.proofs.Refusal.{by-first, by-either, by-second}
-use Rattle.judge_parts.proofs.Laws.{sized}
+use Rattle.judge_parts.proofs.Tests.{sized}
 use Rattle.judge_input.proofs.judge_halftone.Statement.{statement}
 use Rattle.judge_input.proofs.judge_halftone.Tie as tie
 

@@ -7,7 +7,7 @@ use mir.Val.{Fits}
 use Rattle.model.specs.declared.Measures.{Measures}
 use Rattle.model.specs.Refusal.{Refusal, badReach, badKind, badLength, badSum}
 use Rattle.model.proofs.Refusal.{by-first, by-second}
-use Rattle.judge_parts.proofs.Laws.{sized, measured}
+use Rattle.judge_parts.proofs.Tests.{sized, measured}
 use Rattle.judge_input.proofs.judge_handed.Statement.{statement}
 use Rattle.judge_input.proofs.judge_handed.Tie as tie
 

@@ -11,7 +11,7 @@ use mir.Val.{Fits}
 use Rattle.model.specs.declared.Measures.{Measures}
 use Rattle.model.specs.Refusal.{Refusal, badReach, badKind, badLength, badDot, writeRefusal}
 use Rattle.model.proofs.Refusal.{by-first, by-either, by-second}
-use Rattle.judge_parts.proofs.Laws.{sized, measured}
+use Rattle.judge_parts.proofs.Tests.{sized, measured}
 use Rattle.judge_input.proofs.judge_sheet.Statement.{statement}
 use Rattle.judge_input.proofs.judge_sheet.Tie as tie
 

@@ -4,7 +4,7 @@ use Prim.Native.Nat.{_-_, _≤_}
 use native.Mathlib.Omega.{arith}
 use lib.ListN.{length, drop, drop-of-length-le}
 use Rattle.model.specs.Refusal.{above}
-use Rattle.judge_parts.proofs.Laws.{above-here, above-next}
+use Rattle.judge_parts.proofs.Tests.{above-here, above-next}
 use Rattle.judge_parts.proofs.any_above.Statement.{statement}
 use Rattle.judge_parts.proofs.any_above.Tie as tie
 

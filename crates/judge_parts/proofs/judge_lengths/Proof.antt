@@ -2,7 +2,7 @@
 use native.Mathlib.Omega.{arith}
 use borrow.Author.Needs.{needs}
 use Rattle.algebra.proofs.Machine.{factors-fit}
-use Rattle.judge_parts.proofs.Laws.{tests}
+use Rattle.judge_parts.proofs.Tests.{tests}
 use Rattle.judge_parts.proofs.judge_lengths.Statement.{statement}
 use Rattle.judge_parts.proofs.judge_lengths.Tie as tie
 

@@ -7,7 +7,7 @@ use borrow.Author.Needs.{needs}
 use borrow.Author.Tests.{lt-ltb, le-ltb}
 use Rattle.model.specs.Refusal.{Refusal, firstOf, badLength, badSum}
 use Rattle.model.proofs.Refusal.{by-first, by-second}
-use Rattle.judge_parts.proofs.Laws.{tests, psf-most}
+use Rattle.judge_parts.proofs.Tests.{tests, psf-most}
 use Rattle.judge_parts.proofs.judge_slices.Statement.{statement}
 use Rattle.judge_parts.proofs.judge_slices.Tie as tie
 

@@ -4,7 +4,7 @@ use Prim.Native.Nat.{_+_, _*_, _-_, _≤_}
 use native.Mathlib.Omega.{arith}
 use lib.ListN.{length, drop, drop-of-length-le}
 use Rattle.model.specs.Psf.{total}
-use Rattle.judge_parts.proofs.Laws.{total-next}
+use Rattle.judge_parts.proofs.Tests.{total-next}
 use Rattle.judge_parts.proofs.sum.Statement.{statement}
 use Rattle.judge_parts.proofs.sum.Tie as tie
 

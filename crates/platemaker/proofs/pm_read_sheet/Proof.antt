@@ -1,6 +1,6 @@
 -- `platemaker::pm_read_sheet` meets its contract: the slice of measures is refused, or the sheet is read and laid out.
 use borrow.Author.Needs.{needs}
-use Rattle.platemaker.proofs.Laws.{read-unmeasured, read-measured}
+use Rattle.platemaker.proofs.Laid.{read-unmeasured, read-measured}
 use Rattle.platemaker.proofs.pm_read_sheet.Statement.{statement}
 use Rattle.platemaker.proofs.pm_read_sheet.Tie as tie
 

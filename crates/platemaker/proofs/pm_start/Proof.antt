@@ -3,7 +3,7 @@ use mathlib.Core.Path.{refl}
 use native.Mathlib.Omega.{arith}
 use borrow.Author.Needs.{needs}
 use Rattle.platemaker.proofs.Ledgers.{start-storable}
-use Rattle.platemaker.proofs.Laws.{to-lay, slice-refused, slice-taken}
+use Rattle.platemaker.proofs.Laid.{to-lay, slice-refused, slice-taken}
 use Rattle.platemaker.proofs.pm_start.Statement.{statement}
 use Rattle.platemaker.proofs.pm_start.Tie as tie
 

@@ -1,7 +1,7 @@
 -- `platemaker::pm_toggle_scan` meets its contract: the slice is refused, or the call is made and its answer laid out.
 use borrow.Author.Needs.{needs}
 use Rattle.platemaker.proofs.Ledgers.{toggle-scan-storable}
-use Rattle.platemaker.proofs.Laws.{slice-six, to-lay, slice-refused, slice-taken}
+use Rattle.platemaker.proofs.Laid.{slice-six, to-lay, slice-refused, slice-taken}
 use Rattle.platemaker.proofs.pm_toggle_scan.Statement.{statement}
 use Rattle.platemaker.proofs.pm_toggle_scan.Tie as tie
 

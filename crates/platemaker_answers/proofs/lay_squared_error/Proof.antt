@@ -1,7 +1,7 @@
 -- `platemaker_answers::lay_squared_error` meets its contract, case by case of the answer.
 use mathlib.Core.Path.{refl}
 use borrow.Author.Needs.{needs}
-use Rattle.platemaker_numbers.proofs.Laws.{held-whole}
+use Rattle.platemaker_numbers.proofs.Slices.{held-whole}
 use Rattle.platemaker_answers.proofs.lay_squared_error.Statement.{statement}
 use Rattle.platemaker_answers.proofs.lay_squared_error.Tie as tie
 

@@ -1,7 +1,7 @@
 -- `platemaker_ledgers::lay_attempt` meets its contract, case by case of the answer.
 use mathlib.Core.Path.{refl}
 use borrow.Author.Needs.{needs}
-use Rattle.platemaker_numbers.proofs.Laws.{held-whole}
+use Rattle.platemaker_numbers.proofs.Slices.{held-whole}
 use Rattle.platemaker_ledgers.proofs.lay_attempt.Statement.{statement}
 use Rattle.platemaker_ledgers.proofs.lay_attempt.Tie as tie
 

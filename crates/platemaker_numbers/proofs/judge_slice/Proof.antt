@@ -1,6 +1,6 @@
 -- `platemaker_numbers::judge_slice` meets its contract: the measures are judged first, then the length.
 use borrow.Author.Needs.{needs}
-use Rattle.platemaker_numbers.proofs.Laws.{measures-refused, length-refused, none-refused}
+use Rattle.platemaker_numbers.proofs.Slices.{measures-refused, length-refused, none-refused}
 use Rattle.platemaker_numbers.proofs.judge_slice.Statement.{statement}
 use Rattle.platemaker_numbers.proofs.judge_slice.Tie as tie
 

@@ -1,6 +1,6 @@
 -- `platemaker_numbers::stats_of` meets its contract: each figure is read from its place.
 use borrow.Author.Needs.{needs}
-use Rattle.platemaker_numbers.proofs.Laws.{stats-read}
+use Rattle.platemaker_numbers.proofs.Slices.{stats-read}
 use Rattle.platemaker_numbers.proofs.stats_of.Statement.{statement}
 use Rattle.platemaker_numbers.proofs.stats_of.Tie as tie
 

@@ -3,7 +3,7 @@ use native.Mathlib.Omega.{arith}
 use borrow.Author.Needs.{needs}
 use lib.ListN.{length-set}
 use Rattle.model.specs.Interface.{measureNumbers}
-use Rattle.platemaker_numbers.proofs.Laws.{all-stored}
+use Rattle.platemaker_numbers.proofs.Slices.{all-stored}
 use Rattle.platemaker_numbers.proofs.store_measures.Statement.{statement}
 use Rattle.platemaker_numbers.proofs.store_measures.Tie as tie
 

@@ -4,7 +4,7 @@ use borrow.Author.Needs.{needs}
 use lib.ListN.{length-set}
 use mir.Facts.{toZ-pos}
 use mir.Syntax.{w64}
-use Rattle.platemaker_numbers.proofs.Laws.{held-whole, numbers-stored}
+use Rattle.platemaker_numbers.proofs.Slices.{held-whole, numbers-stored}
 use Rattle.platemaker_numbers.proofs.store_stats.Statement.{statement}
 use Rattle.platemaker_numbers.proofs.store_stats.Tie as tie
 

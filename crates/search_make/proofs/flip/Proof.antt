@@ -14,7 +14,7 @@ use Rattle.model.specs.Change.{sign}
 use Rattle.model.proofs.Psf.{side}
 use Rattle.model.proofs.Window.{scaled-by}
 use Rattle.filter_window.proofs.Rows.{index-fits}
-use Rattle.search_change.proofs.Laws.{signed-holds}
+use Rattle.search_change.proofs.Signs.{signed-holds}
 use Rattle.search_make.proofs.flip.Statement.{statement}
 use Rattle.search_make.proofs.flip.Tie as tie
 

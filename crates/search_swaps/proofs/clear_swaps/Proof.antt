@@ -12,7 +12,7 @@ use Rattle.model.specs.Basic.{AtMost}
 use Rattle.model.specs.Error.{cellAt}
 use Rattle.model.specs.Refusal.{HalftoneFits}
 use Rattle.search_partners.proofs.Worths.{worth-small}
-use Rattle.search_trial.proofs.Laws.{table-small}
+use Rattle.search_trial.proofs.Weighed.{table-small}
 use Rattle.filter_window.proofs.Rows.{index-fits}
 use Rattle.search_swaps.proofs.Clear.{run-still}
 use Rattle.search_swaps.proofs.clear_swaps.Statement.{statement}

@@ -9,7 +9,7 @@ use lib.IntN.{ℤ, natAbs}
 use Rattle.model.specs.Basic.{AtMost}
 use Rattle.model.specs.Error.{targetFor, cellAt}
 use Rattle.search_prune.proofs.Grid.{worth-in-small}
-use Rattle.search_trial.proofs.Laws.{table-small}
+use Rattle.search_trial.proofs.Weighed.{table-small}
 use Rattle.search_swaps.proofs.Trials.{all-failed}
 use Rattle.search_swaps.proofs.Clear.{offset-near, none-lowers}
 use Rattle.search_swaps.proofs.first_trial.Statement.{statement}

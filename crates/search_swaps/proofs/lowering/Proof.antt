@@ -18,7 +18,7 @@ use Rattle.model.specs.Partners.{Offset, biased, lands, partner}
 use Rattle.model.specs.Refusal.{HalftoneFits}
 use Rattle.model.specs.Window.{HoldsKernel}
 use Rattle.search_partners.proofs.Worths.{worth-small}
-use Rattle.search_trial.proofs.Laws.{table-small}
+use Rattle.search_trial.proofs.Weighed.{table-small}
 use Rattle.filter_window.proofs.Rows.{index-fits}
 use Rattle.search_swaps.proofs.Partner.{partner-there, partner-missing, trial-is}
 use Rattle.search_swaps.proofs.lowering.Statement.{statement}

@@ -15,7 +15,7 @@ use Rattle.model.specs.Basic.{AtMost, squareAt}
 use Rattle.model.specs.Change.{sign, toggleSum}
 use Rattle.model.specs.Error.{cellAt}
 use Rattle.model.specs.Refusal.{HalftoneFits}
-use Rattle.search_trial.proofs.Laws.{table-small, at-small, toggle-is}
+use Rattle.search_trial.proofs.Weighed.{table-small, at-small, toggle-is}
 use Rattle.filter_window.proofs.Rows.{index-fits}
 use Rattle.search_toggles.proofs.clear_run.Statement.{statement}
 use Rattle.search_toggles.proofs.clear_run.Tie as tie

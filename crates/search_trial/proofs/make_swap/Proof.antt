@@ -19,7 +19,7 @@ use Rattle.model.specs.Window.{HoldsKernel}
 use Rattle.model.specs.Change.{flipped}
 use Rattle.model.proofs.Attempts.{counted-is}
 use Rattle.model.proofs.Turn.{swap-made}
-use Rattle.search_trial.proofs.Laws.{flip-ready, flipped-fits, flip-is, error-small}
+use Rattle.search_trial.proofs.Weighed.{flip-ready, flipped-fits, flip-is, error-small}
 use Rattle.search_trial.proofs.make_swap.Statement.{statement}
 use Rattle.search_trial.proofs.make_swap.Tie as tie
 

@@ -15,7 +15,7 @@ use Rattle.model.specs.State.{LaterFits}
 use Rattle.model.proofs.Attempts.{counted-is}
 use Rattle.model.proofs.Turn.{toggle-made}
 use Rattle.filter_window.proofs.Rows.{index-fits}
-use Rattle.search_trial.proofs.Laws.{flip-ready, flip-is, error-small}
+use Rattle.search_trial.proofs.Weighed.{flip-ready, flip-is, error-small}
 use Rattle.search_trial.proofs.make_toggle.Statement.{statement}
 use Rattle.search_trial.proofs.make_toggle.Tie as tie
 

@@ -17,7 +17,7 @@ use Rattle.model.specs.Refusal.{HalftoneFits}
 use Rattle.model.specs.Window.{HoldsKernel}
 use Rattle.model.specs.Change.{sign, swapSum}
 use Rattle.filter_window.proofs.Rows.{index-fits}
-use Rattle.search_trial.proofs.Laws.{table-small, at-small, swap-is}
+use Rattle.search_trial.proofs.Weighed.{table-small, at-small, swap-is}
 use Rattle.search_trial.proofs.weigh_swap.Statement.{statement}
 use Rattle.search_trial.proofs.weigh_swap.Tie as tie
 

@@ -13,7 +13,7 @@ use Rattle.algebra.proofs.Machine.{read-back}
 use Rattle.model.specs.Basic.{AtMost, squareAt}
 use Rattle.model.specs.Refusal.{HalftoneFits}
 use Rattle.model.specs.Change.{sign, toggleSum}
-use Rattle.search_trial.proofs.Laws.{table-small, at-small, toggle-is}
+use Rattle.search_trial.proofs.Weighed.{table-small, at-small, toggle-is}
 use Rattle.search_trial.proofs.weigh_toggle.Statement.{statement}
 use Rattle.search_trial.proofs.weigh_toggle.Tie as tie
 

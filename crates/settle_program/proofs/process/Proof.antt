@@ -7,7 +7,7 @@ use lib.ListN.{take}
 use Rattle.model.specs.Sheet.{entriesOf, cellsOf}
 use Rattle.model.specs.Program.{processedText}
 use Rattle.model.proofs.Program.{same}
-use Rattle.settle_program.proofs.Laws.{Put}
+use Rattle.settle_program.proofs.Texts.{Put}
 use Rattle.settle_program.proofs.process.Statement.{statement}
 use Rattle.settle_program.proofs.process.Tie as tie
 

@@ -1,7 +1,7 @@
 -- `settle_program::put_converged` meets its contract: what is put is by what settling answered and left.
 use native.Mathlib.Omega.{arith}
 use borrow.Author.Needs.{needs}
-use Rattle.settle_program.proofs.Laws.{converged-put}
+use Rattle.settle_program.proofs.Texts.{converged-put}
 use Rattle.settle_program.proofs.put_converged.Statement.{statement}
 use Rattle.settle_program.proofs.put_converged.Tie as tie
 

@@ -5,7 +5,7 @@ use borrow.Author.Needs.{needs}
 use lib.ListN.{length}
 use Rattle.model.specs.Sheet.{sheetText}
 use Rattle.model.specs.SheetCalls.{writtenSheet}
-use Rattle.settle_program.proofs.Laws.{sheet-most, result-put}
+use Rattle.settle_program.proofs.Texts.{sheet-most, result-put}
 use Rattle.settle_program.proofs.put_result.Statement.{statement}
 use Rattle.settle_program.proofs.put_result.Tie as tie
 

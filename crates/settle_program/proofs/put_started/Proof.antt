@@ -1,7 +1,7 @@
 -- `settle_program::put_started` meets its contract: what is put is by what the start answered and left.
 use native.Mathlib.Omega.{arith}
 use borrow.Author.Needs.{needs}
-use Rattle.settle_program.proofs.Laws.{started-put}
+use Rattle.settle_program.proofs.Texts.{started-put}
 use Rattle.settle_program.proofs.put_started.Statement.{statement}
 use Rattle.settle_program.proofs.put_started.Tie as tie
 

@@ -10,7 +10,7 @@ use Rattle.model.specs.declared.Measures.{Measures}
 use Rattle.model.specs.Sheet.{entriesOf, cellsOf, InRange}
 use Rattle.model.specs.Program.{refusedText, processedText, output}
 use Rattle.model.proofs.Program.{output-long}
-use Rattle.settle_program.proofs.Laws.{run-put, read-refused, read-done}
+use Rattle.settle_program.proofs.Texts.{run-put, read-refused, read-done}
 use Rattle.settle_program.proofs.run.Statement.{statement}
 use Rattle.settle_program.proofs.run.Tie as tie
 

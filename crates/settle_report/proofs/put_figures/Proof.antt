@@ -8,8 +8,8 @@ use lib.ListN.{length}
 use Rattle.model.specs.Text.{bytes, digits}
 use Rattle.model.specs.Sheet.{row}
 use Rattle.model.specs.Program.{figuresText}
-use Rattle.sheet_write.proofs.Laws.{part-next, field-next}
-use Rattle.settle_report.proofs.Laws.{digits-most, figures-length}
+use Rattle.sheet_write.proofs.Puts.{part-next, field-next}
+use Rattle.settle_report.proofs.Lengths.{digits-most, figures-length}
 use Rattle.settle_report.proofs.put_figures.Statement.{statement}
 use Rattle.settle_report.proofs.put_figures.Tie as tie
 

@@ -9,8 +9,8 @@ use lib.Dec.{lit<}
 use lib.ListN.{length}
 use Rattle.model.specs.Text.{bytes, digits}
 use Rattle.model.specs.Program.{refusedText}
-use Rattle.sheet_write.proofs.Laws.{part-next, field-next}
-use Rattle.settle_report.proofs.Laws.{digits-most, refused-length}
+use Rattle.sheet_write.proofs.Puts.{part-next, field-next}
+use Rattle.settle_report.proofs.Lengths.{digits-most, refused-length}
 use Rattle.settle_report.proofs.put_refused.Statement.{statement}
 use Rattle.settle_report.proofs.put_refused.Tie as tie
 

@@ -8,7 +8,7 @@ use lib.ListN.{length}
 use Rattle.model.specs.declared.Head.{Head}
 use Rattle.model.specs.Sheet.{InRange}
 use Rattle.model.specs.Format.{fits}
-use Rattle.sheet.proofs.Laws.{read, head-refused, in-range, no-room, body-refused, read-done}
+use Rattle.sheet.proofs.Outcomes.{read, head-refused, in-range, no-room, body-refused, read-done}
 use Rattle.sheet.proofs.read_sheet.Statement.{statement}
 use Rattle.sheet.proofs.read_sheet.Tie as tie
 

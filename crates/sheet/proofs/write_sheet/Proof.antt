@@ -7,7 +7,7 @@ use Rattle.model.specs.Refusal.{writeRefusal}
 use Rattle.model.specs.Sheet.{InRange, Shaped}
 use Rattle.model.specs.SheetCalls.{result, writtenSheet}
 use Rattle.model.proofs.Sheet.{written-shaped}
-use Rattle.sheet.proofs.Laws.{wrote, write-refused, write-short, write-done}
+use Rattle.sheet.proofs.Outcomes.{wrote, write-refused, write-short, write-done}
 use Rattle.sheet.proofs.write_sheet.Statement.{statement}
 use Rattle.sheet.proofs.write_sheet.Tie as tie
 

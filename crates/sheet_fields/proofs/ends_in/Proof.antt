@@ -3,7 +3,7 @@ use mathlib.Core.Path.{_≡_, sym, _∙_, ap}
 use borrow.Author.Needs.{needs}
 use Rattle.model.specs.declared.Step.{Step}
 use Rattle.model.specs.Format.{isAt}
-use Rattle.sheet_fields.proofs.Laws.{isLineEnd, no-line-end, line-end}
+use Rattle.sheet_fields.proofs.Parts.{isLineEnd, no-line-end, line-end}
 use Rattle.sheet_fields.proofs.ends_in.Statement.{statement}
 use Rattle.sheet_fields.proofs.ends_in.Tie as tie
 

@@ -5,7 +5,7 @@ use Prim.Native.Nat.{_≤_, _-_}
 use native.Mathlib.Nat.{sub-zero}
 use borrow.Author.Needs.{needs}
 use Rattle.model.specs.Format.{grid, fieldAt, endOf, parse, placeOf}
-use Rattle.sheet_fields.proofs.Laws.{left, grid-more, grid-stop, grid-past}
+use Rattle.sheet_fields.proofs.Parts.{left, grid-more, grid-stop, grid-past}
 use Rattle.sheet_fields.proofs.judge_grid.Statement.{statement}
 use Rattle.sheet_fields.proofs.judge_grid.Tie as tie
 

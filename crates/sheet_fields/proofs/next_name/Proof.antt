@@ -2,7 +2,7 @@
 use mathlib.Core.List.{[], _∷_, _++_}
 use mathlib.Core.Path.{sym, _∙_}
 use borrow.Author.Needs.{needs}
-use Rattle.sheet_fields.proofs.Laws.{next-on, next-off, place-fixed}
+use Rattle.sheet_fields.proofs.Parts.{next-on, next-off, place-fixed}
 use Rattle.sheet_fields.proofs.next_name.Statement.{statement}
 use Rattle.sheet_fields.proofs.next_name.Tie as tie
 

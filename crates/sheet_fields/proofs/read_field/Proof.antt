@@ -1,7 +1,7 @@
 -- `sheet_fields::read_field` meets its contract: the item's tests, one after the other.
 use mathlib.Core.Path.{sym, _∙_}
 use borrow.Author.Needs.{needs}
-use Rattle.sheet_fields.proofs.Laws.{is-at, field-other, field-low, field-high, field-ended, field-open}
+use Rattle.sheet_fields.proofs.Parts.{is-at, field-other, field-low, field-high, field-ended, field-open}
 use Rattle.sheet_fields.proofs.read_field.Statement.{statement}
 use Rattle.sheet_fields.proofs.read_field.Tie as tie
 

@@ -7,7 +7,7 @@ use borrow.Author.Needs.{needs}
 use borrow.Author.Tests.{not-true, not-false}
 use lib.ListN.{length, drop, getD}
 use Rattle.model.specs.Format.{isAt, fixedAt}
-use Rattle.sheet_fields.proofs.Laws.{is-at, fixed-more, fixed-stop, fixed-past}
+use Rattle.sheet_fields.proofs.Parts.{is-at, fixed-more, fixed-stop, fixed-past}
 use Rattle.sheet_fields.proofs.read_fixed.Statement.{statement}
 use Rattle.sheet_fields.proofs.read_fixed.Tie as tie
 

@@ -1,7 +1,7 @@
 -- `sheet_fields::read_name` meets its contract: where the item is no word, its first letter is missing.
 use mathlib.Core.Path.{sym, _∙_}
 use borrow.Author.Needs.{needs}
-use Rattle.sheet_fields.proofs.Laws.{is-at, name-off, name-refused, name-ended, name-open}
+use Rattle.sheet_fields.proofs.Parts.{is-at, name-off, name-refused, name-ended, name-open}
 use Rattle.sheet_fields.proofs.read_name.Statement.{statement}
 use Rattle.sheet_fields.proofs.read_name.Tie as tie
 

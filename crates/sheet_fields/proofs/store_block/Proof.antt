@@ -4,7 +4,7 @@ use mathlib.Core.Path.{_≡_, sym, _∙_, ap}
 use borrow.Author.Needs.{needs}
 use lib.Seq.{sets}
 use Rattle.model.specs.Format.{Parsed, grid, block, parse}
-use Rattle.sheet_fields.proofs.Laws.{block-rows}
+use Rattle.sheet_fields.proofs.Parts.{block-rows}
 use Rattle.sheet_fields.proofs.store_block.Statement.{statement}
 use Rattle.sheet_fields.proofs.store_block.Tie as tie
 

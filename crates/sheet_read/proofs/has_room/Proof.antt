@@ -1,6 +1,6 @@
 -- `sheet_read::has_room` meets its contract.
 use borrow.Author.Needs.{needs}
-use Rattle.sheet_read.proofs.Laws.{psf-short, gray-short, dots-room, all-room}
+use Rattle.sheet_read.proofs.Blocks.{psf-short, gray-short, dots-room, all-room}
 use Rattle.sheet_read.proofs.has_room.Statement.{statement}
 use Rattle.sheet_read.proofs.has_room.Tie as tie
 

@@ -3,7 +3,7 @@ use mathlib.Core.List.{List}
 use mathlib.Core.Path.{_∙_, ap}
 use borrow.Author.Needs.{needs}
 use Rattle.model.specs.Format.{Part, place, parseNext}
-use Rattle.sheet_read.proofs.Laws.{psf-block, gray-block, body-end}
+use Rattle.sheet_read.proofs.Blocks.{psf-block, gray-block, body-end}
 use Rattle.sheet_read.proofs.judge_body.Statement.{statement}
 use Rattle.sheet_read.proofs.judge_body.Tie as tie
 

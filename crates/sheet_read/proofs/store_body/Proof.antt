@@ -8,7 +8,7 @@ use lib.ListN.{length}
 use lib.Seq.{sets}
 use Rattle.model.specs.Text.{bytes}
 use Rattle.model.specs.Format.{Part, block, dotsBlock, Parsed, parse}
-use Rattle.sheet_read.proofs.Laws.{room, psf-block, gray-block, psfAt, grayAt, dotsAt, judged}
+use Rattle.sheet_read.proofs.Blocks.{room, psf-block, gray-block, psfAt, grayAt, dotsAt, judged}
 use Rattle.sheet_read.proofs.store_body.Statement.{statement}
 use Rattle.sheet_read.proofs.store_body.Tie as tie
 

@@ -8,7 +8,7 @@ use lib.ListN.{length}
 use lib.Seq.{sets}
 use Rattle.model.specs.Text.{bytes}
 use Rattle.model.specs.Format.{Part, block, dotsBlock, Parsed, parse}
-use Rattle.sheet_read.proofs.Laws.{dots-all, dots-block, no-dots}
+use Rattle.sheet_read.proofs.Blocks.{dots-all, dots-block, no-dots}
 use Rattle.sheet_read.proofs.store_dots.Statement.{statement}
 use Rattle.sheet_read.proofs.store_dots.Tie as tie
 

@@ -2,7 +2,7 @@
 use native.Mathlib.Omega.{arith}
 use borrow.Author.Needs.{needs}
 use Rattle.model.proofs.Text.{length-low}
-use Rattle.sheet_write.proofs.Laws.{head-length}
+use Rattle.sheet_write.proofs.Puts.{head-length}
 use Rattle.sheet_write.proofs.head_length.Statement.{statement}
 use Rattle.sheet_write.proofs.head_length.Tie as tie
 

@@ -6,7 +6,7 @@ use native.Mathlib.Omega.{arith}
 use borrow.Author.Needs.{needs}
 use lib.ListN.{length, drop, length-set, drop-of-length-le}
 use lib.Seq.{sets}
-use Rattle.sheet_write.proofs.Laws.{bytes-next}
+use Rattle.sheet_write.proofs.Puts.{bytes-next}
 use Rattle.sheet_write.proofs.put_bytes.Statement.{statement}
 use Rattle.sheet_write.proofs.put_bytes.Tie as tie
 

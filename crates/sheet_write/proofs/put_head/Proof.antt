@@ -5,7 +5,7 @@ use native.Mathlib.Omega.{arith}
 use borrow.Author.Needs.{needs}
 use Rattle.model.specs.Sheet.{row, names, valuesOf}
 use Rattle.model.specs.SheetCalls.{withGiven}
-use Rattle.sheet_write.proofs.Laws.{part-next, field-next, head-length}
+use Rattle.sheet_write.proofs.Puts.{part-next, field-next, head-length}
 use Rattle.sheet_write.proofs.put_head.Statement.{statement}
 use Rattle.sheet_write.proofs.put_head.Tie as tie
 

@@ -9,8 +9,8 @@ use lib.Seq.{sets}
 use Rattle.model.specs.Sheet.{sideOf, psfName, grayName, dotsName, sheetText}
 use Rattle.model.specs.Format.{gridLength}
 use Rattle.model.specs.SheetCalls.{writtenSheet}
-use Rattle.sheet_write.proofs.Laws.{part-next, headText, block, block-length, sheet-parts, sheet-length}
-use Rattle.sheet_write.proofs.Laws.{psf-most, cells-most}
+use Rattle.sheet_write.proofs.Puts.{part-next, headText, block, block-length, sheet-parts, sheet-length}
+use Rattle.sheet_write.proofs.Puts.{psf-most, cells-most}
 use Rattle.sheet_write.proofs.put_sheet.Statement.{statement}
 use Rattle.sheet_write.proofs.put_sheet.Tie as tie
 

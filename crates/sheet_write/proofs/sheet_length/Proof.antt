@@ -1,7 +1,7 @@
 -- `sheet_write::sheet_length` meets its contract.
 use native.Mathlib.Omega.{arith}
 use borrow.Author.Needs.{needs}
-use Rattle.sheet_write.proofs.Laws.{sheet-length, psf-most, cells-most}
+use Rattle.sheet_write.proofs.Puts.{sheet-length, psf-most, cells-most}
 use Rattle.sheet_write.proofs.sheet_length.Statement.{statement}
 use Rattle.sheet_write.proofs.sheet_length.Tie as tie
 

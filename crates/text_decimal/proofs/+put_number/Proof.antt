@@ -6,7 +6,7 @@ use borrow.Fn.Kinds.{In}
 use borrow.Fn.PlainCycle.{Measures, is, falls, and}
 use lib.ListN.{length-set}
 use Rattle.model.proofs.Text.{digits-low, length-low, length-more}
-use Rattle.text_decimal.proofs.Laws.{last-digit}
+use Rattle.text_decimal.proofs.Digits.{last-digit}
 use Rattle.text_decimal.proofs.put_number.Reads as reads
 use Rattle.text_decimal.proofs.put_number.Kinds as kinds
 use Rattle.text_decimal.proofs.+put_number.Lts-put_number as lts

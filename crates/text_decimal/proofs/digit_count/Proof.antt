@@ -2,7 +2,7 @@
 use mathlib.Core.Path.{sym}
 use native.Mathlib.Omega.{arith}
 use Rattle.model.proofs.Text.{length-low}
-use Rattle.text_decimal.proofs.Laws.{two-digits, three-digits}
+use Rattle.text_decimal.proofs.Digits.{two-digits, three-digits}
 use Rattle.text_decimal.proofs.digit_count.Statement.{statement}
 use Rattle.text_decimal.proofs.digit_count.Tie as tie
 

@@ -6,7 +6,7 @@ use borrow.Author.Needs.{needs}
 use borrow.Author.Tests.{not-true, not-false}
 use lib.ListN.{length, drop}
 use Rattle.model.specs.Text.{runFrom}
-use Rattle.text_reader.proofs.Laws.{run-more, run-stop, run-past}
+use Rattle.text_reader.proofs.Items.{run-more, run-stop, run-past}
 use Rattle.text_reader.proofs.digit_run.Statement.{statement}
 use Rattle.text_reader.proofs.digit_run.Tie as tie
 

@@ -9,7 +9,7 @@ use lib.ListN.{getD, drop-of-length-le}
 use Rattle.model.specs.declared.Item.the-variants.{LineEnd, Other}
 use Rattle.model.specs.Basic.{pick}
 use Rattle.model.specs.Text.{numberStep, step, stepAt}
-use Rattle.text_reader.proofs.Laws.{item-word, item-number, item-other, number-long, number-zero, number-first}
+use Rattle.text_reader.proofs.Items.{item-word, item-number, item-other, number-long, number-zero, number-first}
 use Rattle.text_reader.proofs.step_at.Statement.{statement}
 use Rattle.text_reader.proofs.step_at.Tie as tie
 

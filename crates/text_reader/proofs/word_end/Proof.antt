@@ -5,7 +5,7 @@ use borrow.Author.Needs.{needs}
 use borrow.Author.Tests.{not-true, not-false}
 use lib.ListN.{length, drop}
 use Rattle.model.specs.Text.{wordEnd}
-use Rattle.text_reader.proofs.Laws.{word-more, word-stop, word-past}
+use Rattle.text_reader.proofs.Items.{word-more, word-stop, word-past}
 use Rattle.text_reader.proofs.word_end.Statement.{statement}
 use Rattle.text_reader.proofs.word_end.Tie as tie
 

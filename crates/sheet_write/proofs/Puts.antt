@@ -14,7 +14,7 @@ use Rattle.model.specs.Sheet.{sideOf, row, names, psfName, grayName, dotsName, 
 use Rattle.model.specs.Format.{endOf, gridText, gridLength}
 use Rattle.model.specs.SheetCalls.{withGiven, writtenSheet}
 use Rattle.model.proofs.Rows.{grid-length, rows-grid}
-use Rattle.text_decimal.proofs.Laws.{sets-append}
+use Rattle.text_decimal.proofs.Digits.{sets-append}
 
 -- ---- what is left to put
 -- after one byte

@@ -19,7 +19,7 @@ use Rattle.model.specs.Sheet.{entriesOf, cellsOf, sheetText, InRange, Shaped}
 use Rattle.model.specs.SheetCalls.{readingOf, ReadOutcome, readCall, withGiven, writtenSheet}
 use Rattle.model.specs.Program.{refusedText, statsText, convergedText, startedText, processedText, output}
 use Rattle.model.proofs.Program.{text-most, emptyPsf, emptyCells, output-refused, output-read}
-use Rattle.sheet_write.proofs.Laws.{part-next}
+use Rattle.sheet_write.proofs.Puts.{part-next}
 
 -- a text of at most so many bytes stands at the front of the output, and its length is answered
 abbrev pub Put : (most : ℕ) (out : List ℕ) (answer : ℕ) (left text : List ℕ) → Type 0

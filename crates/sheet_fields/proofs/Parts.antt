@@ -27,7 +27,7 @@ use Rattle.model.specs.Format.{Parsed, parsed, onFixed, onField, parse, placeOf
 use Rattle.model.proofs.Basic.{pick-cases}
 use Rattle.model.proofs.Text.{and-true, digit-range}
 use Rattle.model.proofs.Format.{fixed-good, fixed-on, field-good, field-on, field-off, parse-next}
-use Rattle.text_reader.proofs.Laws.{item-word, item-number, item-other}
+use Rattle.text_reader.proofs.Items.{item-word, item-number, item-other}
 
 -- ---- parts after what was read
 module _ (ps : List Part) (s : List ℕ) (p : Place) where

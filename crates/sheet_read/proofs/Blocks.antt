@@ -17,7 +17,7 @@ use Rattle.model.specs.Format.{Part, block, psfBlock, grayBlock, dotsBlock, bod
 use Rattle.model.specs.Format.{parseNext, ended, fits, sheetOf, bodyEnd}
 use Rattle.model.proofs.Text.{and-true}
 use Rattle.model.proofs.Format.{parse-append, parse-refused, values-length, numbers-grid}
-use Rattle.sheet_fields.proofs.Laws.{next-on, next-append}
+use Rattle.sheet_fields.proofs.Parts.{next-on, next-append}
 
 -- ---- how many numbers
 -- whether there is room, by the tests
