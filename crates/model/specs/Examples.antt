@@ -4,6 +4,7 @@ use mathlib.Core.Path.{_≡_}
 use mathlib.Core.List.{List, [], _∷_, _++_}
 use Prim.Native.Nat.{ℕ}
 use lib.IntN.{ℤ, pos, negsuc, negℤ, _*ℤ_}
+use lib.ListN.{getD}
 use lib.Signed.{_≤ℤ_}
 use Rattle.model.specs.declared.Measures.{Measures}
 use Rattle.model.specs.declared.Stats.{Stats}
@@ -153,9 +154,9 @@ pub record OneSided : Type 0 where
   -- at rest at every reach
   pub dark-rests : (reach : ℕ) → Rest dark reach darkDots (filteredErrors dark darkDots)
   -- yet twice the table is not at least -255 × P under the dot
-  pub below-under-dot : negℤ (pos 255 *ℤ peak 1 even) ≤ℤ (pos 2 *ℤ negsuc 793) → ⊥
+  pub below-under-dot : negℤ (pos 255 *ℤ peak 1 even) ≤ℤ (pos 2 *ℤ getD (filteredErrors dark darkDots) 1 (pos 0)) → ⊥
   -- dots 0 1 0 1: T 320 765 800 641
   pub light-table : filteredErrors light lightDots ≡ pos 320 ∷ pos 765 ∷ pos 800 ∷ pos 641 ∷ []
   pub light-rests : (reach : ℕ) → Rest light reach lightDots (filteredErrors light lightDots)
   -- yet twice the table is not at most 255 × P under the third cell, a blank
-  pub above-under-blank : (pos 2 *ℤ pos 800) ≤ℤ (pos 255 *ℤ peak 1 even) → ⊥
+  pub above-under-blank : (pos 2 *ℤ getD (filteredErrors light lightDots) 2 (pos 0)) ≤ℤ (pos 255 *ℤ peak 1 even) → ⊥
