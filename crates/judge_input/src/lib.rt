@@ -1,10 +1,8 @@
 // The lists of refusals because of the input, 1 to 7, of each call that is not a reader: each function answers the number
 // of the first that is drawn, 0 for none.
-ghost use mathlib.Core.List.{[], _∷_, _++_};
+ghost use mathlib.Core.List.{[], _∷_};
 ghost use mathlib.Core.Path.{_≡_};
-ghost use lib.ListN.{length};
-ghost use Rattle.model.specs.Refusal.{firstOf};
-ghost use Rattle.model.specs.Refusal.{badDot, handed};
+ghost use Rattle.model.specs.Refusal.{firstOf, handed, inputRefusals};
 ghost use Rattle.model.specs.Refusal.{autocorrelationRefusal, halftoneRefusal, startRefusal, writeRefusal};
 use judge_parts::first;
 use judge_parts::judge_all_measures;
@@ -34,12 +32,11 @@ pub fn judge_handed(measures: Measures, psf: &[u8], gray: usize, dots: usize, ta
 }
 
 // 1 to 7, of a call that is handed a table of that length and a ledger
-pub fn judge_later(measures: Measures, psf: &[u8], gray: usize, dots: &[u8], table: usize) -> u32
+pub fn judge_later(measures: Measures, psf: &[u8], gray: &[u8], dots: &[u8], table: usize) -> u32
     ensures { λ r. ⌜ r ≡ firstOf
-        (handed measures (now (psf .entry)) (gray ∷ length (now (dots .entry)) ∷ table ∷ [])
-        ++ (badDot (now (dots .entry)) ∷ [])) ⌝ }
+        (inputRefusals measures (now (psf .entry)) (now (gray .entry)) (now (dots .entry)) table) ⌝ }
 {
-    let input = judge_handed(measures, psf, gray, dots.len(), table);
+    let input = judge_handed(measures, psf, gray.len(), dots.len(), table);
     if input != 0 {
         return input;
     }
@@ -85,8 +82,10 @@ pub fn judge_start(measures: Measures, psf: &[u8], gray: &[u8], dots: &[u8], tab
         (now (psf .entry)) (now (gray .entry)) (now (dots .entry)) table ⌝ }
 {
     let input = judge_handed(measures, psf, gray.len(), dots.len(), table);
-    let bytes = judge_given(measures.start, dots);
-    first(input, bytes)
+    if input != 0 {
+        return input;
+    }
+    judge_given(measures.start, dots)
 }
 
 // the whole list of the writer of a sheet

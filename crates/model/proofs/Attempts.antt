@@ -12,7 +12,7 @@ use Rattle.algebra.proofs.Grid.{cell<}
 use Rattle.model.specs.declared.Measures.{Measures}
 use Rattle.model.specs.declared.Stats.{Stats}
 use Rattle.model.specs.Error.{Target, targetFor, cellAt, filteredErrors, squaredError, cells}
-use Rattle.model.specs.Refusal.{HalftoneFits}
+use Rattle.model.specs.Refusal.{PlateFits}
 use Rattle.model.specs.State.{toggleRefusal, swapRefusal, LaterFits}
 use Rattle.model.specs.Change.{counted}
 use Rattle.model.specs.Reference.{Move, made, toggle, swap, Reference, reference, accept}
@@ -35,15 +35,15 @@ module _ (m : Measures) (psf gray dots : List ℕ) (table : List ℤ) (s : Stats
       → LaterFits m psf gray dots table s × Legal (length dots) dots (toggle dots (cellAt (m .width) row col))
   toggle-ready row col taken =
       let (fits, r, c) = toggle-enters m psf gray dots table s row col taken in
-      (fits, toggle-legal dots (fits .halftone .bits) _ (rw (fits .halftone .dots-length) (cell< r c)))
+      (fits, toggle-legal dots (fits .plate .halftone .bits) _ (rw (fits .plate .halftone .dots-length) (cell< r c)))
 
   pub swap-ready : (row col row′ col′ : ℕ) → swapRefusal m psf gray dots table s row col row′ col′ ≡ 0
       → LaterFits m psf gray dots table s
       × Legal (length dots) dots (swap dots (cellAt (m .width) row col) (cellAt (m .width) row′ col′))
   swap-ready row col row′ col′ taken =
       let (fits, (r, c), (r′, c′), unlike) = swap-enters m psf gray dots table s row col row′ col′ taken in
-      let long = fits .halftone .dots-length in
-      (fits, swap-legal dots (fits .halftone .bits) _ _ (rw long (cell< r c)) (rw long (cell< r′ c′)) unlike)
+      let long = fits .plate .halftone .dots-length in
+      (fits, swap-legal dots (fits .plate .halftone .bits) _ _ (rw long (cell< r c)) (rw long (cell< r′ c′)) unlike)
 
 -- ---- the two cases
 module _ (t : Target) (p : Reference) (v : Move) where
@@ -136,25 +136,25 @@ module _ (m : Measures) (psf gray dots : List ℕ) (table : List ℤ) (s : Stats
       (subst (λ T. LaterFits m psf gray dots T s) (f .state .table-is) f)
 
   module _ (v : Move) (legal : Legal (length dots) dots v) where
-    abbrev Fits : ℕ → Type 0
-    Fits = HalftoneFits (m .width) (m .height) (m .radius) psf gray (made dots (v .sets))
-
-    halftone : Fits (length (filteredErrors t (made dots (v .sets))))
-    halftone =
-        subst Fits (f .halftone .table-length ∙ sym (filtered-long t (made dots (v .sets))))
-        (halftone-made dots (v .sets) (f .halftone) (legal .placed) (legal .bits))
+    plate : PlateFits m psf gray (made dots (v .sets)) (length (filteredErrors t (made dots (v .sets))))
+    plate =
+        subst (PlateFits m psf gray (made dots (v .sets)))
+        (f .plate .halftone .table-length ∙ sym (filtered-long t (made dots (v .sets))))
+        (record {
+          reach-near = f .plate .reach-near;
+          kind-known = f .plate .kind-known;
+          halftone = halftone-made dots (v .sets) (f .plate .halftone) (legal .placed) (legal .bits);
+        })
 
     -- after an accepted change
     pub accept-sound : change t dots v <ℤ pos 0 → Sound m psf gray (accept (reference dots s) v)
     unfolding accept
     accept-sound l =
         record {
-          reach-near = f .reach-near;
-          kind-known = f .kind-known;
-          halftone = halftone;
+          plate = plate;
           state =
-              accept-fits t (f .halftone .wide .0) (lit≤ tt) dots (f .halftone .dots-length) table s (f .state) v
-              (subst (λ n. Legal n dots v) (f .halftone .dots-length) legal) l;
+              accept-fits t (f .plate .halftone .wide .0) (lit≤ tt) dots (f .plate .halftone .dots-length) table s (f .state) v
+              (subst (λ n. Legal n dots v) (f .plate .halftone .dots-length) legal) l;
         }
 
     -- accepted or declined, later calls accept it again
@@ -190,7 +190,7 @@ module _ (m : Measures) (psf gray dots : List ℕ) (table : List ℤ) (s : Stats
       }
     where
       long : length dots ≡ cells (targetFor m psf gray)
-      long = f .halftone .dots-length
+      long = f .plate .halftone .dots-length
 
       verdict : (let done = attempt target (reference dots s) v in
           Verdict m psf gray dots table s v (withTable target (done .after .dots)) (done .answer))

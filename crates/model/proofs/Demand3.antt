@@ -40,13 +40,13 @@ module _ (m : Measures) (psf gray : List ℕ) where
         is-answered = reply;
         is-at-rest =
             subst (λ h. Rest t (m .reach) (h .dots) (h .table)) (sym next)
-            (converge-rest t (m .reach) (f .halftone .wide .0) (lit≤ tt) (f .reach-near) p 0
+            (converge-rest t (m .reach) (f .plate .halftone .wide .0) (lit≤ tt) (f .plate .reach-near) p 0
             (sound-halftone m psf gray p f));
         scans-are-few =
             omega (
               arith,
-              converge-scans t (m .reach) (f .halftone .wide .0) p 0,
-              converge-counts t (m .reach) (f .halftone .wide .0) p 0,
+              converge-scans t (m .reach) (f .plate .halftone .wide .0) p 0,
+              converge-counts t (m .reach) (f .plate .halftone .wide .0) p 0,
             );
       }
 
@@ -70,18 +70,20 @@ module _ (m : Measures) (psf gray : List ℕ) where
         let t = targetFor m psf gray in
         let r = beside l in
         let p = referenceRun m psf gray (begin t first) l .1 in
-        let back = sym (r .held) in
+        let held = ap (λ x. x .1) (r .same) in
+        let answers = ap (λ x. x .0) (r .same) in
+        let back = sym held in
         record {
           table-is-fresh = subst (λ h. h .table ≡ filteredErrors t (h .dots)) back refl;
           error-is-fresh = subst (λ h. h .stats .error ≡ squaredError t (h .dots)) back refl;
           dots-are-bits =
               subst (λ h. (length (h .dots) ≡ m .height * m .width) × AtMost 1 (h .dots)) back
-              (r .sound .halftone .dots-length, r .sound .halftone .bits);
+              (r .sound .plate .halftone .dots-length, r .sound .plate .halftone .bits);
           start-is-kept = subst (λ h. h .stats .«start_error» ≡ squaredError t first) back (r .kept .0);
-          dots-are-reference = ap (λ h. h .dots) (r .held);
-          stats-are-reference = ap (λ h. h .stats) (r .held);
-          answers-are-reference = r .answers;
-          refusals-are-expected = subst (All Expected) (sym (r .answers)) (run-expected m psf gray (begin t first) l);
+          dots-are-reference = ap (λ h. h .dots) held;
+          stats-are-reference = ap (λ h. h .stats) held;
+          answers-are-reference = answers;
+          refusals-are-expected = subst (All Expected) (sym answers) (run-expected m psf gray (begin t first) l);
           dots-are-balanced =
               subst (λ h.
               pos (dotTotal (h .dots)) ≡ pos (dotTotal first) +ℤ pos (h .stats .on) -ℤ pos (h .stats .off)) back
@@ -93,7 +95,7 @@ module _ (m : Measures) (psf gray : List ℕ) where
           convergences-end-at-rest = λ before rest e.
               subst (λ h.
               ComesToRest m psf gray (referenceRun m psf gray (begin t first) before .1) (call m psf gray h convergence))
-              (sym (beside before .held)) (comes-to-rest _ (beside before .sound));
+              (sym (ap (λ x. x .1) (beside before .same))) (comes-to-rest _ (beside before .sound));
         }
 
   -- for every list of calls from every start that was not refused

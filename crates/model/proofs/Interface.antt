@@ -10,17 +10,18 @@ use lib.IntN.{ℤ}
 use lib.ListN.{length, drop}
 use Rattle.model.specs.declared.Measures.{Measures}
 use Rattle.model.specs.declared.Stats.{Stats}
-use Rattle.model.specs.Refusal.{Refusal, _when_, firstOf, badGiven, handed, startRefusal}
-use Rattle.model.specs.State.{toggleNamed, swapNamed, swapAlike, later}
+use Rattle.model.specs.Refusal.{Refusal, _when_, firstOf, startRefusals, startRefusal}
+use Rattle.model.specs.State.{Asked, noCell, toggleAsked, swapAsked, laterRefusals}
 use Rattle.model.specs.State.{laterRefusal, toggleRefusal, swapRefusal}
 use Rattle.model.specs.Reference.{accepted, declined}
 use Rattle.model.specs.Calls.{Reply, result, refused, Outcome, unless, Buffers, laterCall, startCall}
 use Rattle.model.specs.Calls.{toggleCall, swapCall, toggleScanCall, swapScanCall, convergeCall}
 use Rattle.model.specs.Lists.{Call, toggleAt, swapAt, toggleScan, swapScan, convergence}
-use Rattle.model.specs.Lists.{Result, tried, swept, rested, Held, latest, outcome, handOn, call, run}
+use Rattle.model.specs.Lists.{Result, tried, swept, rested, Held, latest, outcome, handOn, call, callNext, run}
 use Rattle.model.specs.Interface.{numbers, statsIn, badMeasures, sliceRefusal, overStats, startOver}
 use Rattle.model.specs.Interface.{Slices, slicesOf, heldIn, statsAfter, leave, callOver, runOver}
 use Rattle.model.proofs.Refusal.{first-passes, by-first}
+use Rattle.model.proofs.Lists.{runs-alike}
 
 -- what is refused twice alike is refused once
 twice : {A B : Type 0} (b : B) (p : Outcome A B) (n k : ℕ) → ((n ≡ 0 → ⊥) → n ≡ k)
@@ -47,8 +48,7 @@ module _ (m : Measures) (psf gray dots : List ℕ) (table stats : List ℤ) (six
 
   pub start-over : startOver m psf gray dots table stats ≡ startCall m psf gray dots table
   unfolding startCall startRefusal
-  start-over =
-      over-six (handed m psf (length gray ∷ length dots ∷ length table ∷ []) ++ (badGiven (m .start) dots ∷ [])) refl _
+  start-over = over-six (startRefusals m psf gray dots (length table)) refl _
 
 module _ (m : Measures) (psf gray : List ℕ) where
   pub call-over : (h : Slices) (c : Call) → length (h .stats) ≡ 6
@@ -57,22 +57,20 @@ module _ (m : Measures) (psf gray : List ℕ) where
       laterRefusal
   call-over h c six = go c
     where
-      of : (named alike : List Refusal) → List Refusal
-      of = later m psf gray (h .dots) (h .table) (statsIn (h .stats))
+      drawn : Asked → List Refusal
+      drawn = laterRefusals m psf gray (h .dots) (h .table) (statsIn (h .stats))
 
-      taken : {A : Type 0} (f : A → Result) (named alike : List Refusal) (p : Outcome A Buffers)
-          → let o = unless (firstOf (of named alike)) (record { dots = h .dots; table = h .table }) p in
+      taken : {A : Type 0} (f : A → Result) (a : Asked) (p : Outcome A Buffers)
+          → let o = unless (firstOf (drawn a)) (record { dots = h .dots; table = h .table }) p in
           outcome f (overStats m psf gray (h .dots) (h .table) (h .stats) o) ≡ outcome f o
-      taken f named alike p =
-          ap (outcome f) (over-six m psf gray (h .dots) (h .table) (h .stats) six (of named alike) refl p)
+      taken f a p = ap (outcome f) (over-six m psf gray (h .dots) (h .table) (h .stats) six (drawn a) refl p)
 
       go : (c : Call) → callOver m psf gray h c ≡ call m psf gray (heldIn h) c
-      go (toggleAt row col) = taken tried (toggleNamed m row col) [] _
-      go (swapAt row col row′ col′) =
-          taken tried (swapNamed m row col row′ col′) (swapAlike m (h .dots) row col row′ col′) _
-      go toggleScan = taken swept [] [] _
-      go swapScan = taken swept [] [] _
-      go convergence = taken rested [] [] _
+      go (toggleAt row col) = taken tried (toggleAsked m row col) _
+      go (swapAt row col row′ col′) = taken tried (swapAsked m (h .dots) row col row′ col′) _
+      go toggleScan = taken swept noCell _
+      go swapScan = taken swept noCell _
+      go convergence = taken rested noCell _
 
 -- ---- lists
 pub stored-read : (s : Stats) → statsIn (numbers s) ≡ s
@@ -91,17 +89,13 @@ leave-over h o =
     ap (λ l. record { dots = o .buffer .dots; table = o .buffer .table; stats = l })
     (stats-after (h .stats) (o .reply))
 
-module _ (m : Measures) (psf gray : List ℕ) where
-  -- an answer before those of the calls that follow it
-  abbrev onward : List Call → Reply Result → Slices → List (Reply Result) × Slices
-  onward l a h = let r = runOver m psf gray h l in (a ∷ r .0, r .1)
-
-  pub run-over : (h : Held) (l : List Call)
-      → (let r = run m psf gray h l in runOver m psf gray (slicesOf h) l ≡ (r .0, slicesOf (r .1)))
-  unfolding runOver run statsIn
-  run-over h [] = refl
-  run-over h (c ∷ l) =
-      let o = call m psf gray h c in
-      ap (λ o. onward l (o .reply) (leave (slicesOf h) o)) (call-over m psf gray (slicesOf h) c refl)
-      ∙ ap (onward l (o .reply)) (leave-over h o)
-      ∙ ap (λ r. (o .reply ∷ r .0, r .1)) (run-over (handOn h o) l)
+pub run-over : (m : Measures) (psf gray : List ℕ) (h : Held) (l : List Call)
+    → (let r = run m psf gray h l in runOver m psf gray (slicesOf h) l ≡ (r .0, slicesOf (r .1)))
+unfolding statsIn
+run-over m psf gray h l =
+    runs-alike (λ h c. let o = callOver m psf gray h c in record { reply = o .reply; buffer = leave h o })
+    (callNext m psf gray) slicesOf (λ h. Unit {0}) (λ h c k. (
+      ap (λ o. record { reply = o .reply; buffer = leave (slicesOf h) o }) (call-over m psf gray (slicesOf h) c refl)
+          ∙ ap (λ s. record { reply = call m psf gray h c .reply; buffer = s }) (leave-over h (call m psf gray h c)),
+      tt,
+    )) h l tt .0

@@ -1,8 +1,7 @@
 -- Lists of calls: each call, handed what the last one left, answers as the reference does and leaves the reference's
 -- dots with their table and its ledger.
 use mathlib.Core.Bool.{true, false}
-use mathlib.Core.List.{List, [], _∷_, _++_}
-use mathlib.Core.Logic.{_⊎_, inl, inr}
+use mathlib.Core.List.{List, [], _∷_, List·Memᴰ as In, List·Memᴰ·head as here, List·Memᴰ·tail as there}
 use mathlib.Core.Path.{_≡_, refl, sym, _∙_, ap, ap₂, subst}
 use Prim.Native.Nat.{ℕ, zero, suc}
 use native.Mathlib.Nat.{le-refl}
@@ -10,17 +9,16 @@ use lib.ListN.{length}
 use Rattle.model.specs.declared.Measures.{Measures}
 use Rattle.model.specs.Error.{Target, targetFor, cellAt, cells, filteredErrors, Halftone}
 use Rattle.model.specs.Refusal.{Refusal, _when_, firstOf}
-use Rattle.model.specs.State.{toggleNamed, swapNamed, swapAlike, later, LaterFits}
+use Rattle.model.specs.State.{Asked, asks, noCell, toggleAsked, swapAsked, laterRefusals, LaterFits}
 use Rattle.model.specs.State.{laterRefusal, toggleRefusal, swapRefusal}
 use Rattle.model.specs.Reference.{Move, toggle, swap, Reference, reference, Performed, statsOf, attempt}
 use Rattle.model.specs.Scan.{Rule, toggles, swaps, scan, resultOf, converge}
-use Rattle.model.specs.Calls.{Reply, result, Outcome, Buffers, laterCall}
+use Rattle.model.specs.Calls.{Reply, result, Outcome, unless, Buffers, laterCall}
 use Rattle.model.specs.Calls.{toggleCall, swapCall, toggleScanCall, swapScanCall, convergeCall}
 use Rattle.model.specs.Lists.{Call, toggleAt, swapAt, toggleScan, swapScan, convergence}
 use Rattle.model.specs.Lists.{Result, tried, swept, rested}
-use Rattle.model.specs.Lists.{Held, latest, outcome, handOn, call, run}
-use Rattle.model.specs.Lists.{Replied, replied, referenceRefusals, does, unlessRefused, referenceCall}
-use Rattle.model.specs.Lists.{referenceRun, Expected}
+use Rattle.model.specs.Lists.{runBy, Held, latest, outcome, handOn, call, callNext, run}
+use Rattle.model.specs.Lists.{replied, asked, does, referenceCall, referenceRun, expected, Expected}
 use Rattle.model.specs.Basic.{All}
 use Rattle.model.proofs.Later.{later-draws}
 use Rattle.model.proofs.Reference.{Legal}
@@ -29,7 +27,26 @@ use Rattle.model.proofs.Scan.{Lawful, toggles-lawful, swaps-lawful, Kee
 use Rattle.model.proofs.Scan.{sound-halftone, sound-kept}
 use Rattle.model.proofs.Converge.{converge-keeps}
 
--- what is handed on beside the reference
+-- ---- two kinds of calls, side by side
+module _ {C R S S′ : Type 0} (make : S → C → Outcome R S) (make′ : S′ → C → Outcome R S′) (of : S′ → S)
+    (Kept : S′ → Type 0) where
+  -- where each call answers alike, and leaves alike by what stands for what, so does a list of them
+  pub runs-alike : ((p : S′) (c : C) → Kept p
+      → (make (of p) c ≡ record { reply = make′ p c .reply; buffer = of (make′ p c .buffer) }) × Kept (make′ p c .buffer))
+      → (p : S′) (l : List C) → Kept p
+      → (runBy make (of p) l ≡ (runBy make′ p l .0, of (runBy make′ p l .1))) × Kept (runBy make′ p l .1)
+  unfolding runBy
+  runs-alike each p [] k = (refl, k)
+  runs-alike each p (c ∷ l) k =
+      let (same, kept) = each p c k in
+      let (rest, last) = runs-alike each (make′ p c .buffer) l kept in (
+        ap (λ o. let r = runBy make (o .buffer) l in (o .reply ∷ r .0, r .1)) same
+            ∙ ap (λ r. (make′ p c .reply ∷ r .0, r .1)) rest,
+        last,
+      )
+
+-- ---- later calls beside the reference
+-- what is handed on beside it
 abbrev pub heldOf : Target → Reference → Held
 heldOf t p = record { dots = p .dots; table = filteredErrors t (p .dots); stats = statsOf t p }
 
@@ -49,22 +66,19 @@ module _ (t : Target) (p : Reference) where
   unfolding converge
   converge-counted reach = refl
 
-  -- ---- a call and the reference, side by side
-  abbrev Same : Outcome Result Buffers → Replied → Type 0
-  Same o r = (o .reply ≡ r .reply) × (handOn (heldOf t p) o ≡ heldOf t (r .after))
+  -- ---- a call and the reference, side by side: refused alike, or both done
+  abbrev Same : Outcome Result Buffers → Outcome Result Reference → Type 0
+  Same o r = (o .reply ≡ r .reply) × (handOn (heldOf t p) o ≡ heldOf t (r .buffer))
 
-  -- refused alike, or both done
   same-by : {A : Type 0} (f : A → Result) (done : Performed A) {n k : ℕ} → n ≡ k → Counted f done
-      → Same (outcome f (laterCall n t (p .dots) (filteredErrors t (p .dots)) done))
-      (unlessRefused k p (replied f done))
+      → Same (outcome f (laterCall n t (p .dots) (filteredErrors t (p .dots)) done)) (unless k p (replied f done))
   unfolding laterCall
   same-by f done {n} {k} e c =
       subst (λ j.
-      Same (outcome f (laterCall n t (p .dots) (filteredErrors t (p .dots)) done)) (unlessRefused j p (replied f done)))
-      e (go n)
+      Same (outcome f (laterCall n t (p .dots) (filteredErrors t (p .dots)) done)) (unless j p (replied f done))) e (go n)
     where
-      go : (n : ℕ) → Same (outcome f (laterCall n t (p .dots) (filteredErrors t (p .dots)) done))
-          (unlessRefused n p (replied f done))
+      go : (n : ℕ)
+          → Same (outcome f (laterCall n t (p .dots) (filteredErrors t (p .dots)) done)) (unless n p (replied f done))
       go zero = (
         refl,
         ap (λ s. record { dots = done .after .dots; table = filteredErrors t (done .after .dots); stats = s }) c,
@@ -77,8 +91,8 @@ module _ (m : Measures) (psf gray : List ℕ) where
 
   module _ (p : Reference) (f : Sound m psf gray p) where
     -- the same number is drawn
-    draws : (named alike : List Refusal) → firstOf (later m psf gray (p .dots) (filteredErrors t (p .dots))
-        (statsOf t p) named alike) ≡ firstOf (named ++ alike)
+    draws : (a : Asked)
+        → firstOf (laterRefusals m psf gray (p .dots) (filteredErrors t (p .dots)) (statsOf t p) a) ≡ firstOf (asks a)
     draws = later-draws m psf gray (p .dots) (filteredErrors t (p .dots)) (statsOf t p) f
 
     pub call-same : (c : Call) → Same t p (call m psf gray (heldOf t p) c) (referenceCall m psf gray p c)
@@ -86,17 +100,17 @@ module _ (m : Measures) (psf gray : List ℕ) where
         statsOf
     call-same (toggleAt row col) =
         let v : Move = toggle (p .dots) (cellAt (m .width) row col) in
-        same-by t p tried (attempt t p v) (draws (toggleNamed m row col) []) (attempt-counted t p v)
+        same-by t p tried (attempt t p v) (draws (toggleAsked m row col)) (attempt-counted t p v)
     call-same (swapAt row col row′ col′) =
         let v : Move = swap (p .dots) (cellAt (m .width) row col) (cellAt (m .width) row′ col′) in
         same-by t p tried (attempt t p v)
-        (draws (swapNamed m row col row′ col′) (swapAlike m (p .dots) row col row′ col′)) (attempt-counted t p v)
-    call-same toggleScan = same-by t p swept (scan t toggles p) (draws [] []) (scan-counted t p toggles)
+        (draws (swapAsked m (p .dots) row col row′ col′)) (attempt-counted t p v)
+    call-same toggleScan = same-by t p swept (scan t toggles p) (draws noCell) (scan-counted t p toggles)
     call-same swapScan =
         let rule : Rule = swaps (m .width) (m .height) (m .reach) in
-        same-by t p swept (scan t rule p) (draws [] []) (scan-counted t p rule)
+        same-by t p swept (scan t rule p) (draws noCell) (scan-counted t p rule)
     call-same convergence =
-        same-by t p rested (converge t (m .reach) p) (draws [] []) (converge-counted t p (m .reach))
+        same-by t p rested (converge t (m .reach) p) (draws noCell) (converge-counted t p (m .reach))
 
     -- ---- what every accepted change keeps, every call keeps
     module _ (P : Reference → Type 0) (keep : Keeps t P) (h : P p) where
@@ -113,25 +127,25 @@ module _ (m : Measures) (psf gray : List ℕ) where
       scan-keeps rule lawful = sweep-keeps t rule lawful p halftone P keep h (cells t) (le-refl (cells t))
 
       -- a call that is not refused
-      does-keeps : (c : Call) → firstOf (referenceRefusals m psf gray (p .dots) c) ≡ 0 → P (does m psf gray p c .after)
+      does-keeps : (c : Call) → firstOf (asks (asked m (p .dots) c)) ≡ 0 → P (does m psf gray p c .buffer)
       unfolding converge toggleRefusal swapRefusal
       does-keeps (toggleAt row col) e =
           attempt-keeps _
           (toggle-ready m psf gray (p .dots) (filteredErrors t (p .dots)) (statsOf t p) row col
-          (draws (toggleNamed m row col) [] ∙ e) .1)
+          (draws (toggleAsked m row col) ∙ e) .1)
       does-keeps (swapAt row col row′ col′) e =
           attempt-keeps _
           (swap-ready m psf gray (p .dots) (filteredErrors t (p .dots)) (statsOf t p) row col row′ col′
-          (draws (swapNamed m row col row′ col′) (swapAlike m (p .dots) row col row′ col′) ∙ e) .1)
+          (draws (swapAsked m (p .dots) row col row′ col′) ∙ e) .1)
       does-keeps toggleScan e = scan-keeps toggles (toggles-lawful t)
       does-keeps swapScan e = scan-keeps (swaps (m .width) (m .height) (m .reach)) (swaps-lawful t (m .reach))
-      does-keeps convergence e = converge-keeps t (m .reach) (f .halftone .wide .0) P keep p 0 halftone h
+      does-keeps convergence e = converge-keeps t (m .reach) (f .plate .halftone .wide .0) P keep p 0 halftone h
 
-      call-keeps : (c : Call) → P (referenceCall m psf gray p c .after)
-      call-keeps c = go (firstOf (referenceRefusals m psf gray (p .dots) c)) refl
+      call-keeps : (c : Call) → P (referenceCall m psf gray p c .buffer)
+      call-keeps c = go (firstOf (asks (asked m (p .dots) c))) refl
         where
-          go : (n : ℕ) → firstOf (referenceRefusals m psf gray (p .dots) c) ≡ n
-              → P (unlessRefused n p (does m psf gray p c) .after)
+          go : (n : ℕ) → firstOf (asks (asked m (p .dots) c)) ≡ n
+              → P (unless n p (does m psf gray p c) .buffer)
           go zero e = does-keeps c e
           go (suc n) e = h
 
@@ -154,57 +168,48 @@ module _ (m : Measures) (psf gray : List ℕ) where
   -- ---- a list of them
   module _ (P : Reference → Type 0) (keep : Keeps t P) where
     pub record Alike (h : List (Reply Result) × Held) (r : List (Reply Result) × Reference) : Type 0 where
-      pub answers : h .0 ≡ r .0
-      pub held : h .1 ≡ heldOf t (r .1)
+      pub same : h ≡ (r .0, heldOf t (r .1))
       pub sound : Sound m psf gray (r .1)
       pub kept : P (r .1)
 
     pub run-same : (p : Reference) (l : List Call) → Sound m psf gray p → P p
         → Alike (run m psf gray (heldOf t p) l) (referenceRun m psf gray p l)
-    unfolding run referenceRun
-    run-same p [] f h = record { answers = refl; held = refl; sound = f; kept = h }
-    run-same p (c ∷ l) f h =
-        let (reply, next) = call-same p f c in
-        let ih
-        = run-same (referenceCall m psf gray p c .after) l
-        (call-keeps p f (Sound m psf gray) (sound-kept m psf gray) f c) (call-keeps p f P keep h c) in
-        record {
-          answers = ap₂ (λ a r. a ∷ r) reply (ap (λ x. run m psf gray x l .0) next ∙ ih .answers);
-          held = ap (λ x. run m psf gray x l .1) next ∙ ih .held;
-          sound = ih .sound;
-          kept = ih .kept;
-        }
+    run-same p l f h =
+        let (same, (sound, kept))
+        = runs-alike (callNext m psf gray) (referenceCall m psf gray) (heldOf t)
+        (λ p. Sound m psf gray p × P p) (λ p c (f, h). (
+          (let (reply, next) = call-same p f c in λ i. record { reply = reply i; buffer = next i }),
+          (call-keeps p f (Sound m psf gray) (sound-kept m psf gray) f c, call-keeps p f P keep h c),
+        )) p l (f, h) in
+        record { same = same; sound = sound; kept = kept }
 
   -- ---- the only refusals in a list
-  abbrev One : ℕ → Type 0
-  One n = (n ≡ 8) ⊎ ((n ≡ 9) ⊎ (n ≡ 22))
-
   abbrev Among : List Refusal → Type 0
   Among [] = Unit {0}
-  Among (n when b ∷ l) = One n × Among l
+  Among (n when b ∷ l) = In n expected × Among l
 
-  module _ (p : Reference) (r : Replied) (h : Expected (r .reply)) where
-    one-drawn : (n : ℕ) → One n → Expected (unlessRefused n p r .reply)
+  module _ (p : Reference) (r : Outcome Result Reference) (h : Expected (r .reply)) where
+    one-drawn : (n : ℕ) → In n expected → Expected (unless n p r .reply)
     one-drawn zero d = h
     one-drawn (suc n) d = d
 
-    drawn-expected : (l : List Refusal) → Among l → Expected (unlessRefused (firstOf l) p r .reply)
+    drawn-expected : (l : List Refusal) → Among l → Expected (unless (firstOf l) p r .reply)
     drawn-expected [] a = h
     drawn-expected (n when true ∷ l) a = one-drawn n (a .0)
     drawn-expected (n when false ∷ l) a = drawn-expected l (a .1)
 
   call-expected : (p : Reference) (c : Call) → Expected (referenceCall m psf gray p c .reply)
   call-expected p (toggleAt row col) =
-      drawn-expected p (does m psf gray p (toggleAt row col)) tt (toggleNamed m row col) (inl refl, tt)
+      drawn-expected p (does m psf gray p (toggleAt row col)) tt (asks (toggleAsked m row col)) (here refl, tt)
   call-expected p (swapAt row col row′ col′) =
       drawn-expected p (does m psf gray p (swapAt row col row′ col′)) tt
-      (swapNamed m row col row′ col′ ++ swapAlike m (p .dots) row col row′ col′)
-      (inl refl, (inr (inl refl), (inr (inr refl), tt)))
+      (asks (swapAsked m (p .dots) row col row′ col′))
+      (here refl, (there (here refl), (there (there (here refl)), tt)))
   call-expected p toggleScan = tt
   call-expected p swapScan = tt
   call-expected p convergence = tt
 
   pub run-expected : (p : Reference) (l : List Call) → All Expected (referenceRun m psf gray p l .0)
-  unfolding referenceRun
+  unfolding runBy
   run-expected p [] = tt
-  run-expected p (c ∷ l) = (call-expected p c, run-expected (referenceCall m psf gray p c .after) l)
+  run-expected p (c ∷ l) = (call-expected p c, run-expected (referenceCall m psf gray p c .buffer) l)

@@ -13,7 +13,7 @@ use Rattle.model.specs.declared.Stats.{Stats}
 use Rattle.model.specs.declared.ConvergeResult.{ConvergeResult}
 use Rattle.model.specs.Basic.{AtMost}
 use Rattle.model.specs.Calls.{Reply, result, refused, Outcome, Buffers, startCall, convergeCall}
-use Rattle.model.specs.Lists.{convergence, rested, latest, run, Rest, answering}
+use Rattle.model.specs.Lists.{convergence, rested, latest, Rest, answering, runBy}
 use Rattle.model.specs.Sheet.{Sheet, sheetText, Valid, cellsOf}
 use Rattle.model.specs.Format.{readSheet, Read}
 use Rattle.model.specs.SheetCalls.{writtenSheet}
@@ -56,7 +56,7 @@ module _ (input : List ℕ) where
 
     started-prints : (stats : Stats) → opening .reply ≡ result stats
         → output input ≡ startedText (s .measures) (s .psf) (s .gray) (result stats) (opening .buffer) → Answer
-    unfolding run
+    unfolding runBy
     started-prints stats q e =
         let d = demand-3 (s .measures) (s .psf) (s .gray) (handedDots s) handed stats (given .1 .gray-most) q
         (convergence ∷ []) in

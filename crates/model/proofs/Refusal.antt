@@ -1,5 +1,5 @@
 -- The laws of the refusals: how the judge of a list is made of judges of its parts, and what a call that draws no
--- refusal was handed (`halftone-fits`, `autocorrelation-fits`, `start-fits`).
+-- refusal was handed (`autocorrelation-fits`, `halftone-fits`, `plate-fits`, `start-plate`).
 use mathlib.Core.Bool.{Bool, true, false, true≢false, not, _||_, _&&_}
 use mathlib.Core.List.{List, [], _∷_, _++_}
 use mathlib.Core.Path.{_≡_, refl, sym, _∙_, ap, ap₂}
@@ -13,8 +13,9 @@ use Rattle.model.specs.Basic.{AtMost}
 use Rattle.model.specs.Psf.{total}
 use Rattle.model.specs.Screen.{startDots}
 use Rattle.model.specs.Refusal.{Refusal, _when_, firstOf, either, outside, differs, above}
-use Rattle.model.specs.Refusal.{badSize, badRadius, badLength, badSum, badDot, badGiven, handed}
+use Rattle.model.specs.Refusal.{autocorrelationRefusals, halftoneRefusals, startRefusals, inputRefusals}
 use Rattle.model.specs.Refusal.{autocorrelationRefusal, halftoneRefusal, startRefusal, PsfFits, HalftoneFits}
+use Rattle.model.specs.Refusal.{PlateFits}
 use Rattle.model.proofs.Basic.{at-most-tail}
 use Rattle.model.proofs.Screen.{start-long, start-bits}
 
@@ -151,8 +152,7 @@ pub autocorrelation-fits : (r : ℕ) (psf : List ℕ) (out : ℕ) → autocorrel
 unfolding autocorrelationRefusal
 autocorrelation-fits r psf out e =
     let cells : ℕ = (4 * r + 1) * (4 * r + 1) in
-    let slices : List Refusal = badLength r psf cells (out ∷ []) ∷ badSum psf ∷ [] in
-    let (radius, (exact, (sum, _))) = none (badRadius r ∷ slices) tt refl e in
+    let (radius, (exact, (sum, _))) = none (autocorrelationRefusals r psf out) tt refl e in
     let (p-is, (o-is, _)) = alike ((2 * r + 1) * (2 * r + 1)) cells (length psf) (out ∷ []) exact in
     (psf-by r psf radius p-is sum, o-is)
 
@@ -185,19 +185,13 @@ pub halftone-fits : (w h r : ℕ) (psf gray dots : List ℕ) (table : ℕ)
     → HalftoneFits w h r psf gray dots table
 unfolding halftoneRefusal
 halftone-fits w h r psf gray dots table e =
-    let lengths : List ℕ = length gray ∷ length dots ∷ table ∷ [] in
-    let slices : List Refusal = badLength r psf (h * w) lengths ∷ badSum psf ∷ badDot dots ∷ [] in
-    let (size, (radius, (exact, (sum, (dot, _))))) = none (badSize w h ∷ badRadius r ∷ slices) tt refl e in
+    let (size, (radius, (exact, (sum, (dot, _)))))
+    = none (halftoneRefusals w h r psf gray dots (table ∷ [])) tt refl e in
     halftone-by w h r psf gray dots table size radius exact sum (λ e. e) (record { each = none-above 1 dots dot })
 
 -- a plate that fits draws none of 1, 2, 5, 6 and 7
 pub halftone-none : (w h r : ℕ) (psf gray dots : List ℕ) (table : ℕ) → HalftoneFits w h r psf gray dots table
-    → None (badSize w h
-    ∷ badRadius r
-    ∷ badLength r psf (h * w) (length gray ∷ length dots ∷ table ∷ [])
-    ∷ badSum psf
-    ∷ badDot dots
-    ∷ [])
+    → None (halftoneRefusals w h r psf gray dots (table ∷ []))
 halftone-none w h r psf gray dots table f = (
   within 256 w (f .wide) nor within 256 h (f .high),
   (
@@ -219,26 +213,50 @@ halftone-none w h r psf gray dots table f = (
     equal : {m n : ℕ} → m ≡ n → not (eqb m n) ≡ false
     equal {m} {n} e = ap not (eq-eqb m n e)
 
--- a start, handed a table of that length: its own dots fit, and those given are as many
-module _ (m : Measures) (psf gray dots : List ℕ) (table : ℕ) (taken : startRefusal m psf gray dots table ≡ 0) where
-  abbrev lengths : List ℕ
-  lengths = length gray ∷ length dots ∷ table ∷ []
+-- ---- of the calls that are handed all five measures
+-- a plate that draws none of 1 to 7
+pub plate-fits : (m : Measures) (psf gray dots : List ℕ) (table : ℕ) → None (inputRefusals m psf gray dots table)
+    → PlateFits m psf gray dots table
+plate-fits m psf gray dots table (size, (radius, (reach, (kind, (exact, (sum, (dot, _))))))) =
+    record {
+      reach-near = ltb-false 6 (m .reach) reach;
+      kind-known = ltb-false 2 (m .start) kind;
+      halftone =
+          halftone-by (m .width) (m .height) (m .radius) psf gray dots table size radius exact sum (λ e. e)
+          (record { each = none-above 1 dots dot });
+    }
 
-  drawn : None (handed m psf lengths ++ (badGiven (m .start) dots ∷ []))
+-- and back
+pub plate-none : (m : Measures) (psf gray dots : List ℕ) (table : ℕ) → PlateFits m psf gray dots table
+    → None (inputRefusals m psf gray dots table)
+plate-none m psf gray dots table f =
+    let (size, (radius, rest))
+    = halftone-none (m .width) (m .height) (m .radius) psf gray dots table (f .halftone) in
+    (size, (radius, (le-ltb 6 (m .reach) (f .reach-near), (le-ltb 2 (m .start) (f .kind-known), rest))))
+
+-- a start, handed a table of that length: those given are as many as its own dots, which fit
+module _ (m : Measures) (psf gray dots : List ℕ) (table : ℕ) (taken : startRefusal m psf gray dots table ≡ 0) where
+  drawn : None (startRefusals m psf gray dots table)
   unfolding startRefusal
-  drawn = none (handed m psf lengths ++ (badGiven (m .start) dots ∷ [])) tt refl taken
+  drawn = none (startRefusals m psf gray dots table) tt refl taken
 
   pub start-given : length dots ≡ m .height * m .width
   start-given =
       let (_, (_, (_, (_, (exact, _))))) = drawn in
       let side : ℕ = 2 * m .radius + 1 in
-      alike (side * side) (m .height * m .width) (length psf) lengths exact .1 .1 .0
+      alike (side * side) (m .height * m .width) (length psf) (length gray ∷ length dots ∷ table ∷ []) exact .1 .1 .0
 
-  pub start-fits : HalftoneFits (m .width) (m .height) (m .radius) psf gray (startDots m gray dots) table
-  start-fits =
+  pub start-plate : PlateFits m psf gray (startDots m gray dots) table
+  start-plate =
       let (size, (radius, (reach, (kind, (exact, (sum, (dot, _))))))) = drawn in
-      halftone-by (m .width) (m .height) (m .radius) psf gray (startDots m gray dots) table size radius exact sum
-      (start-long m gray dots) (start-bits m gray dots (λ k. given (m .start) (ltb-false 2 (m .start) kind) k dot))
+      record {
+        reach-near = ltb-false 6 (m .reach) reach;
+        kind-known = ltb-false 2 (m .start) kind;
+        halftone =
+            halftone-by (m .width) (m .height) (m .radius) psf gray (startDots m gray dots) table size radius exact sum
+            (start-long m gray dots)
+            (start-bits m gray dots (λ k. given (m .start) (ltb-false 2 (m .start) kind) k dot));
+      }
     where
       given : (k : ℕ) → k ≤ 2 → 2 ≤ k → eqb k 2 && above 1 dots ≡ false → AtMost 1 dots
       given k a b h = record { each = none-above 1 dots (rw (eq-eqb k 2 (omega arith)) at h) }

@@ -218,7 +218,7 @@ module _ (m : Measures) (psf gray : List ℕ) where
   target = targetFor m psf gray
 
   pub sound-halftone : (p : Reference) → Sound m psf gray p → Halftone target (p .dots)
-  sound-halftone p f = record { long = f .halftone .dots-length; bits = f .halftone .bits }
+  sound-halftone p f = record { long = f .plate .halftone .dots-length; bits = f .plate .halftone .bits }
 
   pub sound-kept : Keeps target (Sound m psf gray)
   unfolding statsOf

@@ -1,9 +1,8 @@
 -- What a start answers and leaves, refused or not; and where it is not refused, its ledger and its table are fresh, and
 -- no later call refuses them.
-use mathlib.Core.List.{List, [], _∷_, _++_}
+use mathlib.Core.List.{List}
 use mathlib.Core.Path.{_≡_, refl, sym, _∙_, ap, subst}
 use Prim.Native.Nat.{ℕ}
-use borrow.Author.Tests.{ltb-false}
 use lib.IntN.{ℤ}
 use lib.ListN.{length}
 use Rattle.model.specs.declared.Measures.{Measures}
@@ -11,13 +10,13 @@ use Rattle.model.specs.declared.Stats.{Stats}
 use Rattle.model.specs.Basic.{AtMost}
 use Rattle.model.specs.Error.{Target, targetFor, filteredErrors}
 use Rattle.model.specs.Screen.{startDots}
-use Rattle.model.specs.Refusal.{Refusal, handed, badGiven, startRefusal, HalftoneFits}
+use Rattle.model.specs.Refusal.{startRefusal, PlateFits}
 use Rattle.model.specs.State.{freshStats, StateFits, LaterFits}
 use Rattle.model.specs.Promises.{Begun}
 use Rattle.model.specs.Calls.{result, refused, startCall, withTable}
 use Rattle.model.proofs.Error.{filtered-long}
 use Rattle.model.proofs.Calls.{both-refused, both-done, was-done}
-use Rattle.model.proofs.Refusal.{none, start-fits}
+use Rattle.model.proofs.Refusal.{start-plate}
 use Rattle.model.proofs.Halftone.{squared-least, squared-most}
 use Rattle.model.proofs.State.{fresh-fits, dots-counted}
 use Rattle.model.proofs.Later.{fits-later}
@@ -55,31 +54,21 @@ module _ (m : Measures) (psf gray dots : List ℕ) (table : ℕ) (bytes : AtMost
   abbrev begun : List ℕ
   begun = startDots m gray dots
 
-  abbrev Fits : ℕ → Type 0
-  Fits = HalftoneFits (m .width) (m .height) (m .radius) psf gray begun
-
-  fits : Fits table
-  fits = start-fits m psf gray dots table taken
+  pub start-fits : PlateFits m psf gray begun (length (filteredErrors t begun))
+  start-fits =
+      let f = start-plate m psf gray dots table taken in
+      subst (PlateFits m psf gray begun) (f .halftone .table-length ∙ sym (filtered-long t begun)) f
 
   pub start-state : StateFits t begun (filteredErrors t begun) (freshStats t begun)
   start-state =
-      fresh-fits t begun (fits .bits) (fits .dots-length)
-      (squared-least (m .width) (m .height) (m .radius) psf gray begun fits bytes)
-      (squared-most (m .width) (m .height) (m .radius) psf gray begun fits bytes)
+      let f = start-fits .halftone in
+      fresh-fits t begun (f .bits) (f .dots-length)
+      (squared-least (m .width) (m .height) (m .radius) psf gray begun f bytes)
+      (squared-most (m .width) (m .height) (m .radius) psf gray begun f bytes)
 
   -- what is left is what later calls accept
   pub start-later : LaterFits m psf gray begun (filteredErrors t begun) (freshStats t begun)
-  unfolding startRefusal
-  start-later =
-      let lengths : List ℕ = length gray ∷ length dots ∷ table ∷ [] in
-      let judged : List Refusal = handed m psf lengths ++ (badGiven (m .start) dots ∷ []) in
-      let (_, (_, (reach, (kind, _)))) = none judged tt refl taken in
-      record {
-        reach-near = ltb-false 6 (m .reach) reach;
-        kind-known = ltb-false 2 (m .start) kind;
-        halftone = subst Fits (fits .table-length ∙ sym (filtered-long t begun)) fits;
-        state = start-state;
-      }
+  start-later = record { plate = start-fits; state = start-state }
 
 -- ---- what a start that is not refused answers and leaves
 module _ (m : Measures) (psf gray : List ℕ) where
@@ -94,7 +83,7 @@ module _ (m : Measures) (psf gray : List ℕ) where
         error-is-sum = refl;
         start-error-is-not-negative = f .start-low;
         start-error-is-bounded = f .start-high;
-        start-dots-are-counted = dots-counted (startDots m gray dots) (start-fits m psf gray dots table e .bits);
+        start-dots-are-counted = dots-counted (startDots m gray dots) (start-plate m psf gray dots table e .halftone .bits);
         counts-are-0 = (refl, refl, refl);
         table-is-fresh = refl;
         is-accepted = fits-later m psf gray _ _ _ (start-later m psf gray dots table bytes e);

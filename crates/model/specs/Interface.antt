@@ -17,7 +17,7 @@ use Rattle.model.specs.Reference.{Tried, accepted, declined}
 use Rattle.model.specs.Calls.{Reply, result, refused, Outcome, unless, Buffers}
 use Rattle.model.specs.Calls.{startCall, toggleCall, swapCall, toggleScanCall, swapScanCall, convergeCall}
 use Rattle.model.specs.Lists.{Call, toggleAt, swapAt, toggleScan, swapScan, convergence}
-use Rattle.model.specs.Lists.{Result, tried, swept, rested, Held, outcome}
+use Rattle.model.specs.Lists.{Result, tried, swept, rested, runBy, Held, outcome}
 use Rattle.model.specs.SheetCalls as Sheet
 
 -- ---- an answer in numbers
@@ -144,12 +144,8 @@ module _ (m : Measures) (psf gray : List ℕ) where
   callOver h convergence = outcome rested (convergeOver m psf gray (h .dots) (h .table) (h .stats))
 
   -- every answer in order, and what is left
-  unfoldable pub runOver : Slices → List Call → List (Reply Result) × Slices
-  runOver h [] = ([], h)
-  runOver h (c ∷ l) =
-      let o = callOver h c in
-      let r = runOver (leave h o) l in
-      (o .reply ∷ r .0, r .1)
+  abbrev pub runOver : Slices → List Call → List (Reply Result) × Slices
+  runOver = runBy (λ h c. let o = callOver h c in record { reply = o .reply; buffer = leave h o })
 
 -- ---- sheets, whose refusals have a byte offset
 abbrev pub sheetStatus : {A : Type 0} → Sheet.Reply A → ℕ

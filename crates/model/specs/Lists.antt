@@ -1,9 +1,8 @@
 -- Lists of calls (01: Lists of calls): each later call handed what the last one left, and beside it the reference (01:
 -- the plain plate), which is fed the kind of each call and the cells that it names. And what it is to be at rest.
-use mathlib.Core.List.{List, [], _∷_, _++_}
-use mathlib.Core.Logic.{_⊎_}
+use mathlib.Core.List.{List, [], _∷_, List·Memᴰ as In}
 use mathlib.Core.Path.{_≡_}
-use Prim.Native.Nat.{ℕ, zero, suc, _+_, _*_, _/_, _%_, _≤_, _<_}
+use Prim.Native.Nat.{ℕ, _+_, _/_, _%_, _≤_, _<_}
 use lib.IntN.{ℤ, pos, negℤ, _*ℤ_}
 use lib.Signed.{_≤ℤ_}
 use lib.ListN.{getD}
@@ -13,10 +12,10 @@ use Rattle.model.specs.declared.ScanResult.{ScanResult}
 use Rattle.model.specs.declared.ConvergeResult.{ConvergeResult}
 use Rattle.model.specs.Psf.{peak}
 use Rattle.model.specs.Error.{Target, cells, squaredError}
-use Rattle.model.specs.Refusal.{Refusal, firstOf, gap}
-use Rattle.model.specs.State.{dotTotal, toggleNamed, swapNamed, swapAlike}
+use Rattle.model.specs.Refusal.{firstOf, gap}
+use Rattle.model.specs.State.{dotTotal, Asked, asks, noCell, toggleAsked, swapAsked}
 use Rattle.model.specs.Reference.{toggle, swap, Reference, Performed, Tried, accepted, declined, change}
-use Rattle.model.specs.Calls.{Reply, result, refused, Outcome, Buffers}
+use Rattle.model.specs.Calls.{Reply, result, refused, Outcome, unless, Buffers}
 use Rattle.model.specs.Calls.{toggled, swapped, toggleScanned, swapScanned, atRest}
 use Rattle.model.specs.Calls.{toggleCall, swapCall, toggleScanCall, swapScanCall, convergeCall}
 
@@ -33,6 +32,14 @@ pub data Result : Type 0 where
   tried : Tried → Result
   swept : ScanResult → Result
   rested : ConvergeResult → Result
+
+-- a list of calls of any kind, each handed what the last one left: every answer in order, and what is left
+unfoldable pub runBy : {C R S : Type 0} → (S → C → Outcome R S) → S → List C → List (Reply R) × S
+runBy make s [] = ([], s)
+runBy make s (c ∷ l) =
+    let o = make s c in
+    let r = runBy make (o .buffer) l in
+    (o .reply ∷ r .0, r .1)
 
 -- ---- the calls
 -- what a call is handed: the dots and the table as the last one left them, and the last ledger answered
@@ -71,13 +78,12 @@ module _ (m : Measures) (psf gray : List ℕ) where
   call h swapScan = outcome swept (swapScanCall m psf gray (h .dots) (h .table) (h .stats))
   call h convergence = outcome rested (convergeCall m psf gray (h .dots) (h .table) (h .stats))
 
-  -- every answer in order, and what is left
-  unfoldable pub run : Held → List Call → List (Reply Result) × Held
-  run h [] = ([], h)
-  run h (c ∷ l) =
-      let o = call h c in
-      let r = run (handOn h o) l in
-      (o .reply ∷ r .0, r .1)
+  -- with what the next one is handed
+  abbrev pub callNext : Held → Call → Outcome Result Held
+  callNext h c = let o = call h c in record { reply = o .reply; buffer = handOn h o }
+
+  abbrev pub run : Held → List Call → List (Reply Result) × Held
+  run = runBy callNext
 
 -- ---- the reference
 -- at a start: the dots of the rule for starts, their E and their number, and the counts 0
@@ -96,50 +102,40 @@ begin t dots =
 abbrev pub acceptedBy : Reference → ℕ
 acceptedBy p = p .on + p .off + p .swaps
 
-pub record Replied : Type 0 where
-  pub reply : Reply Result
-  pub after : Reference
+abbrev pub replied : {A : Type 0} → (A → Result) → Performed A → Outcome Result Reference
+replied f done = record { reply = result (f (done .answer)); buffer = done .after }
 
-abbrev pub replied : {A : Type 0} → (A → Result) → Performed A → Replied
-replied f done = record { reply = result (f (done .answer)); after = done .after }
-
--- a refused call changes nothing and answers its number
-abbrev pub unlessRefused : ℕ → Reference → Replied → Replied
-unlessRefused zero p r = r
-unlessRefused (suc n) p r = record { reply = refused (suc n); after = p }
+-- what a call asks of the cells that it names, by these dots
+abbrev pub asked : Measures → List ℕ → Call → Asked
+asked m dots (toggleAt row col) = toggleAsked m row col
+asked m dots (swapAt row col row′ col′) = swapAsked m dots row col row′ col′
+asked m dots toggleScan = noCell
+asked m dots swapScan = noCell
+asked m dots convergence = noCell
 
 module _ (m : Measures) (psf gray : List ℕ) where
-  -- 8, 9 and 22, the last by its own dots
-  abbrev pub referenceRefusals : List ℕ → Call → List Refusal
-  referenceRefusals dots (toggleAt row col) = toggleNamed m row col
-  referenceRefusals dots (swapAt row col row′ col′) =
-      swapNamed m row col row′ col′ ++ swapAlike m dots row col row′ col′
-  referenceRefusals dots toggleScan = []
-  referenceRefusals dots swapScan = []
-  referenceRefusals dots convergence = []
-
   -- a call that is not refused
-  abbrev pub does : Reference → Call → Replied
+  abbrev pub does : Reference → Call → Outcome Result Reference
   does p (toggleAt row col) = replied tried (toggled m psf gray p row col)
   does p (swapAt row col row′ col′) = replied tried (swapped m psf gray p row col row′ col′)
   does p toggleScan = replied swept (toggleScanned m psf gray p)
   does p swapScan = replied swept (swapScanned m psf gray p)
   does p convergence = replied rested (atRest m psf gray p)
 
-  abbrev pub referenceCall : Reference → Call → Replied
-  referenceCall p c = unlessRefused (firstOf (referenceRefusals (p .dots) c)) p (does p c)
+  -- a refused call changes nothing and answers its number: 8, 9 or 22, the last by its own dots
+  abbrev pub referenceCall : Reference → Call → Outcome Result Reference
+  referenceCall p c = unless (firstOf (asks (asked m (p .dots) c))) p (does p c)
 
-  unfoldable pub referenceRun : Reference → List Call → List (Reply Result) × Reference
-  referenceRun p [] = ([], p)
-  referenceRun p (c ∷ l) =
-      let o = referenceCall p c in
-      let r = referenceRun (o .after) l in
-      (o .reply ∷ r .0, r .1)
+  abbrev pub referenceRun : Reference → List Call → List (Reply Result) × Reference
+  referenceRun = runBy referenceCall
 
 -- what may be answered in a list that a start begins: of the refusals, 8, 9 and 22
+abbrev pub expected : List ℕ
+expected = 8 ∷ 9 ∷ 22 ∷ []
+
 abbrev pub Expected : Reply Result → Type 0
 Expected (result r) = Unit {0}
-Expected (refused n) = (n ≡ 8) ⊎ ((n ≡ 9) ⊎ (n ≡ 22))
+Expected (refused n) = In n expected
 
 -- ---- rest: no toggle, no swap within reach lowers E; the two half-peak bounds
 pub record Rest (t : Target) (reach : ℕ) (dots : List ℕ) (table : List ℤ) : Type 0 where

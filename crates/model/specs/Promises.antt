@@ -175,7 +175,7 @@ module _ (m : Measures) (psf gray : List ℕ) where
     -- every dot and at least -255 × P under every blank
     pub is-at-rest : Rest (targetFor m psf gray) (m .reach) (o .buffer .dots) (o .buffer .table)
     -- its scans are at most 2 × its accepted changes + 2
-    pub scans-are-few : (let after = referenceCall m psf gray before convergence .after in
+    pub scans-are-few : (let after = referenceCall m psf gray before convergence .buffer in
         answer .scans ≤ 2 * (acceptedBy after - acceptedBy before) + 2)
 
   -- what holds after a list of calls, from the dots, table and ledger of a start whose dots are `first`

@@ -95,22 +95,21 @@ abbrev pub badPair : (reach row col row′ col′ : ℕ) → Refusal
 badPair reach row col row′ col′ =
     9 when ((eqb row row′ && eqb col col′) || (ltb reach (gap row row′) || ltb reach (gap col col′)))
 
--- ---- the calls, each by the parts that it is handed
+-- ---- the calls, each by the parts that it is handed: its list
 -- the autocorrelation, handed an output of that length
-unfoldable pub autocorrelationRefusal : ℕ → List ℕ → ℕ → ℕ
-autocorrelationRefusal radius psf out =
-    firstOf (badRadius radius ∷ badLength radius psf ((4 * radius + 1) * (4 * radius + 1)) (out ∷ []) ∷ badSum psf ∷ [])
+abbrev pub autocorrelationRefusals : (radius : ℕ) (psf : List ℕ) (out : ℕ) → List Refusal
+autocorrelationRefusals radius psf out =
+    badRadius radius ∷ badLength radius psf ((4 * radius + 1) * (4 * radius + 1)) (out ∷ []) ∷ badSum psf ∷ []
 
 -- the squared error and, with the length of the table lent, the filtered error
-unfoldable pub halftoneRefusal : ℕ → ℕ → ℕ → List ℕ → List ℕ → List ℕ → List ℕ → ℕ
-halftoneRefusal width height radius psf gray dots others =
-    firstOf
-    (badSize width height
+abbrev pub halftoneRefusals : (width height radius : ℕ) (psf gray dots others : List ℕ) → List Refusal
+halftoneRefusals width height radius psf gray dots others =
+    badSize width height
     ∷ badRadius radius
     ∷ badLength radius psf (height * width) (length gray ∷ length dots ∷ others)
     ∷ badSum psf
     ∷ badDot dots
-    ∷ [])
+    ∷ []
 
 -- 1 to 6, of the calls that are handed all five measures, with the lengths of gray, dots and table
 abbrev pub handed : Measures → List ℕ → List ℕ → List Refusal
@@ -124,21 +123,39 @@ handed m psf lengths =
     ∷ []
 
 -- a start, handed a table of that length
-unfoldable pub startRefusal : Measures → List ℕ → List ℕ → List ℕ → ℕ → ℕ
-startRefusal m psf gray dots table =
-    firstOf (handed m psf (length gray ∷ length dots ∷ table ∷ []) ++ (badGiven (m .start) dots ∷ []))
+abbrev pub startRefusals : Measures → (psf gray dots : List ℕ) (table : ℕ) → List Refusal
+startRefusals m psf gray dots table =
+    handed m psf (length gray ∷ length dots ∷ table ∷ []) ++ (badGiven (m .start) dots ∷ [])
+
+-- the later calls because of their input, handed a table of that length: 1 to 7
+abbrev pub inputRefusals : Measures → (psf gray dots : List ℕ) (table : ℕ) → List Refusal
+inputRefusals m psf gray dots table =
+    handed m psf (length gray ∷ length dots ∷ table ∷ []) ++ (badDot dots ∷ [])
 
 -- the writer of a sheet: 1 to 5 and 7
-unfoldable pub writeRefusal : Measures → List ℕ → List ℕ → List ℕ → ℕ
-writeRefusal m psf gray dots =
-    firstOf
-    (badSize (m .width) (m .height)
+abbrev pub writeRefusals : Measures → (psf gray dots : List ℕ) → List Refusal
+writeRefusals m psf gray dots =
+    badSize (m .width) (m .height)
     ∷ badRadius (m .radius)
     ∷ badReach (m .reach)
     ∷ badKind (m .start)
     ∷ badLength (m .radius) psf (m .height * m .width) (length gray ∷ length dots ∷ [])
     ∷ badDot dots
-    ∷ [])
+    ∷ []
+
+-- and the number that it draws
+unfoldable pub autocorrelationRefusal : (radius : ℕ) (psf : List ℕ) (out : ℕ) → ℕ
+autocorrelationRefusal radius psf out = firstOf (autocorrelationRefusals radius psf out)
+
+unfoldable pub halftoneRefusal : (width height radius : ℕ) (psf gray dots others : List ℕ) → ℕ
+halftoneRefusal width height radius psf gray dots others =
+    firstOf (halftoneRefusals width height radius psf gray dots others)
+
+unfoldable pub startRefusal : Measures → (psf gray dots : List ℕ) (table : ℕ) → ℕ
+startRefusal m psf gray dots table = firstOf (startRefusals m psf gray dots table)
+
+unfoldable pub writeRefusal : Measures → (psf gray dots : List ℕ) → ℕ
+writeRefusal m psf gray dots = firstOf (writeRefusals m psf gray dots)
 
 -- ---- what a call was handed that nothing refused
 pub record PsfFits (r : ℕ) (psf : List ℕ) : Type 0 where
@@ -156,3 +173,9 @@ pub record HalftoneFits (w h r : ℕ) (psf gray dots : List ℕ) (table : ℕ) :
   pub dots-length : length dots ≡ h * w
   pub table-length : table ≡ h * w
   pub bits : AtMost 1 dots
+
+-- the same of the calls that are handed all five measures
+pub record PlateFits (m : Measures) (psf gray dots : List ℕ) (table : ℕ) : Type 0 where
+  pub reach-near : m .reach ≤ 6
+  pub kind-known : m .start ≤ 2
+  pub halftone : HalftoneFits (m .width) (m .height) (m .radius) psf gray dots table

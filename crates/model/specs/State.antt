@@ -3,7 +3,7 @@
 use mathlib.Core.Bool.{Bool, false, _||_}
 use mathlib.Core.List.{List, [], _∷_, _++_}
 use mathlib.Core.Path.{_≡_}
-use Prim.Native.Nat.{ℕ, zero, suc, _+_, _*_, _^_, _≤_}
+use Prim.Native.Nat.{ℕ, zero, suc, _+_, _^_, _≤_}
 use lib.Dec.{ltb, eqb}
 use lib.IntN.{ℤ, pos, _+ℤ_, _-ℤ_, _*ℤ_}
 use lib.Signed.{ltZ, _≤ℤ_}
@@ -13,8 +13,8 @@ use Rattle.model.specs.declared.Stats.{Stats}
 use Rattle.model.specs.Psf.{total}
 use Rattle.model.specs.Error.{Target, targetFor, cellAt, mostSquared, cells}
 use Rattle.model.specs.Error.{filteredErrors, filteredError, squaredError}
-use Rattle.model.specs.Refusal.{Refusal, _when_, firstOf, handed, badDot, badCell, badCells, badPair}
-use Rattle.model.specs.Refusal.{HalftoneFits}
+use Rattle.model.specs.Refusal.{Refusal, _when_, firstOf, badCell, badCells, badPair, inputRefusals}
+use Rattle.model.specs.Refusal.{PlateFits}
 
 -- the dot total: the number of dots on the plate, each byte being 0 or 1
 abbrev pub dotTotal : List ℕ → ℕ
@@ -97,44 +97,49 @@ module _ (t : Target) (dots : List ℕ) where
 abbrev pub badLike : List ℕ → ℕ → ℕ → Refusal
 badLike dots m n = 22 when eqb (getD dots m 0) (getD dots n 0)
 
--- ---- what the cells that a call names draw
-module _ (m : Measures) where
-  -- 8 of a toggle
-  abbrev pub toggleNamed : (row col : ℕ) → List Refusal
-  toggleNamed row col = badCell (m .width) (m .height) row col ∷ []
-
-  -- 8 and 9 of a swap
-  abbrev pub swapNamed : (row col row′ col′ : ℕ) → List Refusal
-  swapNamed row col row′ col′ =
-      badCells (m .width) (m .height) row col row′ col′ ∷ badPair (m .reach) row col row′ col′ ∷ []
-
-  -- 22 of a swap
-  abbrev pub swapAlike : (dots : List ℕ) (row col row′ col′ : ℕ) → List Refusal
-  swapAlike dots row col row′ col′ = badLike dots (cellAt (m .width) row col) (cellAt (m .width) row′ col′) ∷ []
-
 -- ---- the later calls
-module _ (m : Measures) (psf gray dots : List ℕ) (table : List ℤ) (s : Stats) where
-  -- 1 to 7
-  abbrev pub inputRefusals : List Refusal
-  inputRefusals = handed m psf (length gray ∷ length dots ∷ length table ∷ []) ++ (badDot dots ∷ [])
+-- what one asks of the cells that it names, by place: before 20 whether they can be named (8, 9), after 21 whether their
+-- dots can be changed (22)
+pub record Asked : Type 0 where
+  pub named : List Refusal
+  pub last : List Refusal
 
+-- both, one after the other
+abbrev pub asks : Asked → List Refusal
+asks a = a .named ++ a .last
+
+-- scans and settling name no cell
+abbrev pub noCell : Asked
+noCell = record { named = []; last = [] }
+
+module _ (m : Measures) where
+  abbrev pub toggleAsked : (row col : ℕ) → Asked
+  toggleAsked row col = record { named = badCell (m .width) (m .height) row col ∷ []; last = [] }
+
+  abbrev pub swapAsked : (dots : List ℕ) (row col row′ col′ : ℕ) → Asked
+  swapAsked dots row col row′ col′ = record {
+    named = badCells (m .width) (m .height) row col row′ col′ ∷ badPair (m .reach) row col row′ col′ ∷ [];
+    last = badLike dots (cellAt (m .width) row col) (cellAt (m .width) row′ col′) ∷ [];
+  }
+
+module _ (m : Measures) (psf gray dots : List ℕ) (table : List ℤ) (s : Stats) where
   -- 20 and 21
   abbrev pub stateRefusals : List Refusal
   stateRefusals = badTable (targetFor m psf gray) dots table ∷ badStats (targetFor m psf gray) dots s ∷ []
 
-  -- with those of the cells that the call names (8, 9) and of their dots (22), each in its place
-  abbrev pub later : (named alike : List Refusal) → List Refusal
-  later named alike = inputRefusals ++ (named ++ (stateRefusals ++ alike))
+  -- the whole list
+  abbrev pub laterRefusals : Asked → List Refusal
+  laterRefusals a = inputRefusals m psf gray dots (length table) ++ (a .named ++ (stateRefusals ++ a .last))
 
-  -- a call that names no cell
+  -- and the number that it draws
   unfoldable pub laterRefusal : ℕ
-  laterRefusal = firstOf (later [] [])
+  laterRefusal = firstOf (laterRefusals noCell)
 
   unfoldable pub toggleRefusal : (row col : ℕ) → ℕ
-  toggleRefusal row col = firstOf (later (toggleNamed m row col) [])
+  toggleRefusal row col = firstOf (laterRefusals (toggleAsked m row col))
 
   unfoldable pub swapRefusal : (row col row′ col′ : ℕ) → ℕ
-  swapRefusal row col row′ col′ = firstOf (later (swapNamed m row col row′ col′) (swapAlike m dots row col row′ col′))
+  swapRefusal row col row′ col′ = firstOf (laterRefusals (swapAsked m dots row col row′ col′))
 
 -- the state that neither 20 nor 21 refuses
 pub record StateFits (t : Target) (dots : List ℕ) (table : List ℤ) (s : Stats) : Type 0 where
@@ -151,7 +156,5 @@ pub record StateFits (t : Target) (dots : List ℕ) (table : List ℤ) (s : Stat
 
 -- what a later call was handed that none of 1 to 7, 20 and 21 refused
 pub record LaterFits (m : Measures) (psf gray dots : List ℕ) (table : List ℤ) (s : Stats) : Type 0 where
-  pub reach-near : m .reach ≤ 6
-  pub kind-known : m .start ≤ 2
-  pub halftone : HalftoneFits (m .width) (m .height) (m .radius) psf gray dots (length table)
+  pub plate : PlateFits m psf gray dots (length table)
   pub state : StateFits (targetFor m psf gray) dots table s

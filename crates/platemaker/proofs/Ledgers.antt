@@ -28,7 +28,7 @@ module _ (m : Measures) (psf gray dots : List ℕ) (table : List ℤ) (s : Stats
   storable : LaterFits m psf gray dots table s → Storable s
   storable f =
       let k = f .state in
-      let most = few-cells (f .halftone) in (
+      let most = few-cells (f .plate .halftone) in (
         omega (arith, k .dots-fit, most),
         omega (arith, k .on-few),
         omega (arith, k .off-few),

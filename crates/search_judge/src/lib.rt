@@ -26,7 +26,7 @@ pub fn judge_toggle(
     ensures { λ r. ⌜ r ≡ toggleRefusal measures (now (psf .entry)) (now (gray .entry))
         (now (dots .entry)) (now (table .entry)) stats row col ⌝ }
 {
-    let input = judge_later(measures, psf, gray.len(), dots, table.len());
+    let input = judge_later(measures, psf, gray, dots, table.len());
     if input != 0 {
         return input;
     }
@@ -62,7 +62,7 @@ pub fn judge_swap(
     ensures { λ r. ⌜ r ≡ swapRefusal measures (now (psf .entry)) (now (gray .entry))
         (now (dots .entry)) (now (table .entry)) stats row col row2 col2 ⌝ }
 {
-    let input = judge_later(measures, psf, gray.len(), dots, table.len());
+    let input = judge_later(measures, psf, gray, dots, table.len());
     if input != 0 {
         return input;
     }
@@ -100,7 +100,7 @@ pub fn judge_scan(
     ensures { λ r. ⌜ r ≡ laterRefusal measures (now (psf .entry)) (now (gray .entry))
         (now (dots .entry)) (now (table .entry)) stats ⌝ }
 {
-    let handed = judge_later(measures, psf, gray.len(), dots, table.len());
+    let handed = judge_later(measures, psf, gray, dots, table.len());
     if handed != 0 {
         return handed;
     }

@@ -11,7 +11,7 @@ module _ (s : tie.Start) where
   abbrev input : List Refusal
   input =
       handed (s .args .measures) (s .args .psf .now)
-      (s .args .gray ∷ length (s .args .dots .now) ∷ s .args .table ∷ [])
+      (length (s .args .gray .now) ∷ length (s .args .dots .now) ∷ s .args .table ∷ [])
 
   abbrev bytes : List Refusal
   bytes = badDot (s .args .dots .now) ∷ []
@@ -21,17 +21,19 @@ judge-handed-requires c κs = search needs
 
 returns : tie.Need-returns
 returns c =
-    let s = c .before .before .before .before in
-    by-first (input s) (bytes s) tt (c .before .judge-handed .ensures) (c .if1 .taken)
+    let s : tie.Start = search in
+    let called : tie.After-judge-handed = search in
+    by-first (input s) (bytes s) tt (called .judge-handed .ensures) (c .if1 .taken)
 
 judge-dots-requires : tie.Need-judge-dots-requires
 judge-dots-requires c κs = search needs
 
 returns-2 : tie.Need-returns-2
 returns-2 c =
-    let s = c .before .before .before .before .before in
-    by-second (input s) (bytes s) tt (c .before .before .judge-handed .ensures) (c .before .if1 .left)
-    (c .judge-dots .ensures)
+    let s : tie.Start = search in
+    let called : tie.After-judge-handed = search in
+    let passed : tie.Else1 = search in
+    by-second (input s) (bytes s) tt (called .judge-handed .ensures) (passed .if1 .left) (c .judge-dots .ensures)
 
 pub judge-later-spec : {M : Type 1} → statement M
 judge-later-spec = tie.close (tie.spec judge-handed-requires returns judge-dots-requires returns-2)

@@ -35,7 +35,7 @@ module _ (c : tie.Else1) where
   fits = later-enters _ _ _ _ _ _ taken
 
 kernel-requires : tie.Need-kernel-requires
-kernel-requires c κs = fits c .halftone .psf-fits
+kernel-requires c κs = fits c .plate .halftone .psf-fits
 
 slice-aggregate-swap-all : tie.Need-slice-aggregate-swap-all
 slice-aggregate-swap-all c = search needs

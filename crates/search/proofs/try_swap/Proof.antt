@@ -42,7 +42,7 @@ module _ (c : tie.Else1) where
   enters = swap-enters _ _ _ _ _ _ _ _ _ _ taken
 
 kernel-requires : tie.Need-kernel-requires
-kernel-requires c κs = enters c .0 .halftone .psf-fits
+kernel-requires c κs = enters c .0 .plate .halftone .psf-fits
 
 slice-aggregate-swap : tie.Need-slice-aggregate-swap
 slice-aggregate-swap c = search needs

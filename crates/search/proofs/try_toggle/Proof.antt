@@ -37,7 +37,7 @@ module _ (c : tie.Else1) where
   enters = toggle-enters _ _ _ _ _ _ _ _ taken
 
 kernel-requires : tie.Need-kernel-requires
-kernel-requires c κs = enters c .0 .halftone .psf-fits
+kernel-requires c κs = enters c .0 .plate .halftone .psf-fits
 
 slice-aggregate-toggle : tie.Need-slice-aggregate-toggle
 slice-aggregate-toggle c = search needs

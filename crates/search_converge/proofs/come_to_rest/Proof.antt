@@ -77,12 +77,12 @@ add-scans-2 c =
 same-length : tie.Need-same-length Inv-loop μ-loop
 same-length c =
     let b = c .before .before .before .before .before .before in
-    swapped b .fits .halftone .dots-length ∙ sym (s (a b) .pre .0 .halftone .dots-length)
+    swapped b .fits .plate .halftone .dots-length ∙ sym (s (a b) .pre .0 .plate .halftone .dots-length)
 
 same-length-2 : tie.Need-same-length-2 Inv-loop μ-loop
 same-length-2 c =
     let b = c .before .before .before .before .before .before in
-    swapped b .fits .halftone .table-length ∙ sym (s (a b) .pre .0 .halftone .table-length)
+    swapped b .fits .plate .halftone .table-length ∙ sym (s (a b) .pre .0 .plate .halftone .table-length)
 
 returns : tie.Need-returns Inv-loop μ-loop
 returns c =

@@ -1,10 +1,10 @@
 -- `search::judge_scan` meets its contract: 1 to 7, then 20 and 21, each part with a judge of its own.
 use mathlib.Core.List.{List}
 use borrow.Author.Needs.{needs}
-use Rattle.model.specs.Refusal.{Refusal}
-use Rattle.model.specs.State.{inputRefusals, stateRefusals, laterRefusal}
-use Rattle.model.proofs.Refusal.{none, by-first, by-second}
-use Rattle.model.proofs.Later.{input-fits}
+use lib.ListN.{length}
+use Rattle.model.specs.Refusal.{Refusal, inputRefusals}
+use Rattle.model.specs.State.{stateRefusals, laterRefusal}
+use Rattle.model.proofs.Refusal.{none, by-first, by-second, plate-fits}
 use Rattle.search_judge.proofs.judge_scan.Statement.{statement}
 use Rattle.search_judge.proofs.judge_scan.Tie as tie
 
@@ -12,7 +12,7 @@ module _ (s : tie.Start) where
   abbrev input : List Refusal
   input =
       inputRefusals (s .args .measures) (s .args .psf .now) (s .args .gray .now) (s .args .dots .now)
-      (s .args .table .now) (s .args .stats)
+      (length (s .args .table .now))
 
   abbrev state : List Refusal
   state =
@@ -31,8 +31,8 @@ returns c =
 judge-state-requires : tie.Need-judge-state-requires
 judge-state-requires c κs =
     let s = c .before .before .before .before .before in
-    input-fits (s .args .measures) _ _ _ (s .args .table .now) (s .args .stats)
-    (none (input s) tt (c .before .judge-later .ensures) (c .if1 .left))
+    plate-fits (s .args .measures) _ _ _ (length (s .args .table .now))
+    (none (input s) tt (c .before .judge-later .ensures) (c .if1 .left)) .halftone
 
 returns-2 : tie.Need-returns-2
 unfolding laterRefusal

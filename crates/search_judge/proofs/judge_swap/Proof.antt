@@ -9,10 +9,10 @@ use lib.ListN.{length}
 use Rattle.algebra.proofs.Grid.{cell<}
 use Rattle.algebra.proofs.Machine.{factors-fit}
 use Rattle.model.specs.Error.{cellAt}
-use Rattle.model.specs.Refusal.{Refusal, firstOf, badCells, badPair, HalftoneFits}
-use Rattle.model.specs.State.{badTable, wrongStats, badLike, inputRefusals, stateRefusals, swapRefusal}
-use Rattle.model.proofs.Refusal.{none, by-first, by-either, by-second}
-use Rattle.model.proofs.Later.{cells-inside, input-fits}
+use Rattle.model.specs.Refusal.{Refusal, firstOf, badCells, badPair, HalftoneFits, inputRefusals}
+use Rattle.model.specs.State.{badTable, wrongStats, badLike, stateRefusals, swapRefusal}
+use Rattle.model.proofs.Refusal.{none, by-first, by-either, by-second, plate-fits}
+use Rattle.model.proofs.Later.{cells-inside}
 use Rattle.filter_window.proofs.Rows.{index-fits}
 use Rattle.search_judge.proofs.judge_swap.Statement.{statement}
 use Rattle.search_judge.proofs.judge_swap.Tie as tie
@@ -21,7 +21,7 @@ module _ (s : tie.Start) where
   abbrev input : List Refusal
   input =
       inputRefusals (s .args .measures) (s .args .psf .now) (s .args .gray .now) (s .args .dots .now)
-      (s .args .table .now) (s .args .stats)
+      (length (s .args .table .now))
 
   abbrev cells : Refusal
   cells =
@@ -91,8 +91,8 @@ module _ (c : tie.Else2) where
   fits : HalftoneFits (a .args .measures .width) (a .args .measures .height) (a .args .measures .radius)
       (a .args .psf .now) (a .args .gray .now) (a .args .dots .now) (length (a .args .table .now))
   fits =
-      input-fits (a .args .measures) _ _ _ (a .args .table .now) (a .args .stats)
-      (none (input a) tt (e (c .before) .before .judge-later .ensures) (e (c .before) .if1 .left))
+      plate-fits (a .args .measures) _ _ _ (length (a .args .table .now))
+      (none (input a) tt (e (c .before) .before .judge-later .ensures) (e (c .before) .if1 .left)) .halftone
 
   on : ((a .args .row < a .args .measures .height) × (a .args .col < a .args .measures .width))
       × ((a .args .row2 < a .args .measures .height) × (a .args .col2 < a .args .measures .width))

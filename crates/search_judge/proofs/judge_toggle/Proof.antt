@@ -1,10 +1,10 @@
 -- `search::judge_toggle` meets its contract: 1 to 7, then 8, then 20 and 21, each part with a judge of its own.
 use mathlib.Core.List.{List, [], _∷_, _++_}
 use borrow.Author.Needs.{needs}
-use Rattle.model.specs.Refusal.{Refusal, badCell}
-use Rattle.model.specs.State.{inputRefusals, stateRefusals, toggleRefusal}
-use Rattle.model.proofs.Refusal.{none, by-first, by-second}
-use Rattle.model.proofs.Later.{input-fits}
+use lib.ListN.{length}
+use Rattle.model.specs.Refusal.{Refusal, badCell, inputRefusals}
+use Rattle.model.specs.State.{stateRefusals, toggleRefusal}
+use Rattle.model.proofs.Refusal.{none, by-first, by-second, plate-fits}
 use Rattle.search_judge.proofs.judge_toggle.Statement.{statement}
 use Rattle.search_judge.proofs.judge_toggle.Tie as tie
 
@@ -12,7 +12,7 @@ module _ (s : tie.Start) where
   abbrev input : List Refusal
   input =
       inputRefusals (s .args .measures) (s .args .psf .now) (s .args .gray .now) (s .args .dots .now)
-      (s .args .table .now) (s .args .stats)
+      (length (s .args .table .now))
 
   abbrev cell : List Refusal
   cell = badCell (s .args .measures .width) (s .args .measures .height) (s .args .row) (s .args .col) ∷ []
@@ -46,8 +46,8 @@ judge-state-requires : tie.Need-judge-state-requires
 judge-state-requires c κs =
     let e = c .before .before in
     let s = e .before .before .before .before .before in
-    input-fits (s .args .measures) _ _ _ (s .args .table .now) (s .args .stats)
-    (none (input s) tt (e .before .judge-later .ensures) (e .if1 .left))
+    plate-fits (s .args .measures) _ _ _ (length (s .args .table .now))
+    (none (input s) tt (e .before .judge-later .ensures) (e .if1 .left)) .halftone
 
 returns-3 : tie.Need-returns-3
 unfolding toggleRefusal

@@ -39,10 +39,10 @@ lay-worths-requires c κs =
     let side = c .before in
     let s = side .before .before .before .before .before .before .before .before .before .before .before .before .before
     .before in
-    let reach : 2 * s .args .measures .reach + 1 ≤ 13 = omega (arith, s .pre .0 .reach-near) in (
-      (s .pre .0 .halftone .psf-fits .near, s .pre .1 .long, s .pre .1 .small),
+    let reach : 2 * s .args .measures .reach + 1 ≤ 13 = omega (arith, s .pre .0 .plate .reach-near) in (
+      (s .pre .0 .plate .halftone .psf-fits .near, s .pre .1 .long, s .pre .1 .small),
       (
-        s .pre .0 .reach-near,
+        s .pre .0 .plate .reach-near,
         side .side-of .ensures .0,
         side .side-of .ensures .1,
         mul-le-mul reach (side .side-of .ensures .1),

@@ -59,7 +59,7 @@ loop-holds c =
     let s = c .before .before .before .before .before in (
       under-at (under-start _ _ _ (s .args .dots .now) (s .args .table .now) (s .args .stats) _ (s .pre .0))
           (omega arith),
-      s .pre .0 .halftone .wide .0,
+      s .pre .0 .plate .halftone .wide .0,
       omega arith,
     )
 
@@ -91,13 +91,13 @@ module _ (v : tie.Then1 Inv-partners μ-partners Inv-loop μ-loop) where
   is-a-cell = cell< (v .if1 .taken) (here .loop .inv .1)
 
   low : here .loop .at .row < 256
-  low = omega (arith, v .if1 .taken, s here .pre .0 .halftone .high .1)
+  low = omega (arith, v .if1 .taken, s here .pre .0 .plate .halftone .high .1)
 
 clear-swaps-requires : tie.Need-clear-swaps-requires Inv-partners μ-partners Inv-loop μ-loop
 clear-swaps-requires c κs =
     let v = c .before .before in
     let l = here v in (
-      fits l .halftone,
+      fits l .plate .halftone,
       (
         fits l .state .table-is,
         (
@@ -111,7 +111,7 @@ ahead-requires : tie.Need-ahead-requires Inv-partners μ-partners Inv-loop μ-lo
 ahead-requires c κs =
     let v = c .before .before .before .before in
     let l = here v in
-    (low v, l .loop .inv .1, s l .pre .0 .halftone .wide .1, c .before .clear-swaps .ensures .0)
+    (low v, l .loop .inv .1, s l .pre .0 .plate .halftone .wide .1, c .before .clear-swaps .ensures .0)
 
 loop-less : tie.Need-loop-less Inv-partners μ-partners Inv-loop μ-loop
 loop-less c =
@@ -138,13 +138,13 @@ loop-again c =
 run-end-requires : tie.Need-run-end-requires Inv-partners μ-partners Inv-loop μ-loop
 run-end-requires c κs =
     let v = c .before .before .before .before in
-    (low v, here v .loop .inv .1, s (here v) .pre .0 .halftone .wide .1)
+    (low v, here v .loop .inv .1, s (here v) .pre .0 .plate .halftone .wide .1)
 
 first-trial-requires : tie.Need-first-trial-requires Inv-partners μ-partners Inv-loop μ-loop
 first-trial-requires c κs =
     let a = c .before .before .before .before .before .before .before in
     let l = a .before .before .before in (
-      fits l .halftone,
+      fits l .plate .halftone,
       (
         fits l .state .table-is,
         (
@@ -210,7 +210,7 @@ lowering-requires : tie.Need-lowering-requires Inv-partners μ-partners Inv-loop
 lowering-requires c κs =
     let a = c .before .before .before .before .before in
     let l = l2 a in (
-      fits l .halftone,
+      fits l .plate .halftone,
       (
         fits l .state .table-is,
         (
@@ -302,7 +302,7 @@ swap-cell-requires c κs =
 next-requires : tie.Need-next-requires Inv-partners μ-partners Inv-loop μ-loop
 next-requires c κs =
     let j = c .before .before .before .before .before .before in
-    let f = fits (l3 j) .halftone in
+    let f = fits (l3 j) .plate .halftone in
     (omega (arith, j .before .before .before .before .before .before .before .before .before .before .if1 .taken, f .high .1), l3 j .loop .inv .1, f .wide .1)
 
 loop-less-2 : tie.Need-loop-less-2 Inv-partners μ-partners Inv-loop μ-loop
@@ -326,12 +326,12 @@ loop-again-2 c =
 same-length : tie.Need-same-length Inv-partners μ-partners Inv-loop μ-loop
 same-length c =
     let l = c .before .before .before in
-    fits l .halftone .dots-length ∙ sym (s l .pre .0 .halftone .dots-length)
+    fits l .plate .halftone .dots-length ∙ sym (s l .pre .0 .plate .halftone .dots-length)
 
 same-length-2 : tie.Need-same-length-2 Inv-partners μ-partners Inv-loop μ-loop
 same-length-2 c =
     let l = c .before .before .before in
-    fits l .halftone .table-length ∙ sym (s l .pre .0 .halftone .table-length)
+    fits l .plate .halftone .table-length ∙ sym (s l .pre .0 .plate .halftone .table-length)
 
 returns : tie.Need-returns Inv-partners μ-partners Inv-loop μ-loop
 returns c =

@@ -99,7 +99,7 @@ cast-row2 c = record { fits = omega (arith, near (c .before)) }
 add-row2 : tie.Need-add-row2
 add-row2 c =
     let a = c .before .before in
-    record { fits = omega (arith, near a, here (s a), fits (s a) .halftone .high) }
+    record { fits = omega (arith, near a, here (s a), fits (s a) .plate .halftone .high) }
 
 sub-row2 : tie.Need-sub-row2
 sub-row2 c = there (c .before .before) .0 .0
@@ -113,7 +113,7 @@ cast-col2 c = record { fits = omega (arith, near (c .before .before .before)) }
 add-col2 : tie.Need-add-col2
 add-col2 c =
     let a = c .before .before .before .before in
-    record { fits = omega (arith, near a, here (s a), fits (s a) .halftone .wide) }
+    record { fits = omega (arith, near a, here (s a), fits (s a) .plate .halftone .wide) }
 
 sub-col2 : tie.Need-sub-col2
 sub-col2 c = there (c .before .before .before .before) .0 .1
@@ -122,7 +122,7 @@ weigh-swap-requires : tie.Need-weigh-swap-requires
 weigh-swap-requires c κs =
     let a = c .before .before .before .before .before .before in
     let (kernel, (_, (at, _))) = s a .pre .1 in
-    (fits (s a) .halftone, (fits (s a) .state .table-is, (kernel, ((at .0, at .1), (there a .1, unlike a)))))
+    (fits (s a) .plate .halftone, (fits (s a) .state .table-is, (kernel, ((at .0, at .1), (there a .1, unlike a)))))
 
 make-swap-requires : tie.Need-make-swap-requires
 make-swap-requires c κs =

@@ -33,7 +33,7 @@ loop-holds : tie.Need-loop-holds Inv-loop μ-loop
 loop-holds c =
     let s = c .before .before .before in (
       under-at (under-start _ _ _ _ _ _ toggles (s .pre .0)) (omega arith),
-      s .pre .0 .halftone .wide .0,
+      s .pre .0 .plate .halftone .wide .0,
       omega arith,
     )
 
@@ -67,19 +67,19 @@ module _ (v : tie.Then1 Inv-loop μ-loop) where
   is-a-cell = cell< (v .if1 .taken) (here .loop .inv .1)
 
   low : here .loop .cell .row < 256
-  low = omega (arith, v .if1 .taken, s here .pre .0 .halftone .high .1)
+  low = omega (arith, v .if1 .taken, s here .pre .0 .plate .halftone .high .1)
 
 clear-run-requires : tie.Need-clear-run-requires Inv-loop μ-loop
 clear-run-requires c κs =
     let v = c .before .before in
     let l = here v in
-    (fits l .halftone, (fits l .state .table-is, (s l .pre .1, (v .if1 .taken, l .loop .inv .1))))
+    (fits l .plate .halftone, (fits l .state .table-is, (s l .pre .1, (v .if1 .taken, l .loop .inv .1))))
 
 ahead-requires : tie.Need-ahead-requires Inv-loop μ-loop
 ahead-requires c κs =
     let v = c .before .before .before .before in
     let l = here v in
-    (low v, l .loop .inv .1, s l .pre .0 .halftone .wide .1, c .before .clear-run .ensures .0)
+    (low v, l .loop .inv .1, s l .pre .0 .plate .halftone .wide .1, c .before .clear-run .ensures .0)
 
 loop-less : tie.Need-loop-less Inv-loop μ-loop
 loop-less c =
@@ -107,7 +107,7 @@ loop-again c =
 run-end-requires : tie.Need-run-end-requires Inv-loop μ-loop
 run-end-requires c κs =
     let v = c .before .before .before .before in
-    (low v, here v .loop .inv .1, s (here v) .pre .0 .halftone .wide .1)
+    (low v, here v .loop .inv .1, s (here v) .pre .0 .plate .halftone .wide .1)
 
 toggle-cell-requires : tie.Need-toggle-cell-requires Inv-loop μ-loop
 toggle-cell-requires c κs =
@@ -127,7 +127,7 @@ toggle-cell-requires c κs =
 next-requires : tie.Need-next-requires Inv-loop μ-loop
 next-requires c κs =
     let v = c .before .before .before .before .before .before .before .before .before .before .before in
-    (low v, here v .loop .inv .1, s (here v) .pre .0 .halftone .wide .1)
+    (low v, here v .loop .inv .1, s (here v) .pre .0 .plate .halftone .wide .1)
 
 loop-less-2 : tie.Need-loop-less-2 Inv-loop μ-loop
 loop-less-2 c =
@@ -146,11 +146,11 @@ loop-again-2 c =
 
 same-length : tie.Need-same-length Inv-loop μ-loop
 same-length c =
-    let l = c .before .before .before in fits l .halftone .dots-length ∙ sym (s l .pre .0 .halftone .dots-length)
+    let l = c .before .before .before in fits l .plate .halftone .dots-length ∙ sym (s l .pre .0 .plate .halftone .dots-length)
 
 same-length-2 : tie.Need-same-length-2 Inv-loop μ-loop
 same-length-2 c =
-    let l = c .before .before .before in fits l .halftone .table-length ∙ sym (s l .pre .0 .halftone .table-length)
+    let l = c .before .before .before in fits l .plate .halftone .table-length ∙ sym (s l .pre .0 .plate .halftone .table-length)
 
 returns : tie.Need-returns Inv-loop μ-loop
 returns c =

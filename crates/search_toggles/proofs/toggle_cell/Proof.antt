@@ -40,19 +40,19 @@ module _ (k : tie.After-struct-known) where
 mul-m : tie.Need-mul-m
 mul-m c =
     let k = c .before in
-    let f = fits k .halftone in
+    let f = fits k .plate .halftone in
     factors-fit 256 256 (omega (arith, f .high .1, inside k .0)) (f .wide .1) tt
 
 add-m : tie.Need-add-m
 add-m c =
     let k = c .before .before in
-    let f = fits k .halftone in
+    let f = fits k .plate .halftone in
     index-fits _ _ _ (omega (arith, f .high .1, inside k .0)) (f .wide .1) (omega (arith, f .wide .1, inside k .1))
 
 weigh-toggle-requires : tie.Need-weigh-toggle-requires
 weigh-toggle-requires c κs =
     let k = c .before .before .before .before in
-    (fits k .halftone, (fits k .state .table-is, (s k .pre .1 .0, cell< (inside k .0) (inside k .1))))
+    (fits k .plate .halftone, (fits k .state .table-is, (s k .pre .1 .0, cell< (inside k .0) (inside k .1))))
 
 -- the change as its local holds it
 module _ (c : tie.After-weigh-toggle) where

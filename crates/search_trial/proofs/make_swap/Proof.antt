@@ -67,7 +67,7 @@ count-swap-requires c κs = (
 flip-requires : tie.Need-flip-requires
 flip-requires c κs =
     let k = c .before .before .before in
-    flip-ready _ _ _ _ _ _ _ (fits k .halftone) _ (holds k) _ _ (one k .0) (one k .1)
+    flip-ready _ _ _ _ _ _ _ (fits k .plate .halftone) _ (holds k) _ _ (one k .0) (one k .1)
     (fits k .state .table-is) (bytes k)
 
 -- after the first turn: a judged plate with its table again
@@ -87,12 +87,12 @@ module _ (c : tie.After-flip) where
   fits1 : Fits dots1
   fits1 =
       subst Fits (sym (c .flip .ensures .0))
-      (flipped-fits _ _ _ _ _ _ _ (fits k .halftone) (q k) (cell< (one k .0) (one k .1)))
+      (flipped-fits _ _ _ _ _ _ _ (fits k .plate .halftone) (q k) (cell< (one k .0) (one k .1)))
 
   table1 : c .flip .last .1 .1 .1 .1 .1 .0 ≡ filteredErrors (t k) dots1
   table1 =
       c .flip .ensures .1
-      ∙ flip-is _ _ _ _ _ _ _ (fits k .halftone) _ (holds k) _ _ (one k .0) (one k .1) (fits k .state .table-is)
+      ∙ flip-is _ _ _ _ _ _ _ (fits k .plate .halftone) _ (holds k) _ _ (one k .0) (one k .1) (fits k .state .table-is)
       ∙ ap (filteredErrors (t k)) (sym (c .flip .ensures .0))
 
 flip-requires-2 : tie.Need-flip-requires-2
@@ -118,7 +118,7 @@ returns c =
     let dots = s a .args .dots .now in
     let as-made =
     ap (λ l. flipped l (o a)) (f .flip .ensures .0)
-    ∙ sym (swap-made dots (fits a .halftone .bits) (q a) (o a) (s a .pre .1 .1 .1 .1 .0)) in (
+    ∙ sym (swap-made dots (fits a .plate .halftone .bits) (q a) (o a) (s a .pre .1 .1 .1 .1 .0)) in (
       count .count-swap .ensures
           ∙ counted-is (t a) dots (s a .args .stats) (swap dots (q a) (o a)) (fits a .state .error-is)
           (back a ∙ s a .pre .1 .1 .1 .1 .1 .0),

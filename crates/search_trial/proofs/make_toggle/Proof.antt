@@ -46,18 +46,18 @@ module _ (k : tie.After-struct-known) where
 
 mul-m : tie.Need-mul-m
 mul-m c =
-    let f = fits c .halftone in
+    let f = fits c .plate .halftone in
     factors-fit 256 256 (omega (arith, f .high .1, inside c .0)) (f .wide .1) tt
 
 add-m : tie.Need-add-m
 add-m c =
-    let f = fits c .halftone in
+    let f = fits c .plate .halftone in
     index-fits _ _ _ (omega (arith, f .high .1, inside c .0)) (f .wide .1) (omega (arith, f .wide .1, inside c .1))
 
 slice-read-count-toggle : tie.Need-slice-read-count-toggle
 slice-read-count-toggle c =
     let k = c .before in
-    omega (arith, fits k .halftone .dots-length, cell< (inside k .0) (inside k .1))
+    omega (arith, fits k .plate .halftone .dots-length, cell< (inside k .0) (inside k .1))
 
 count-toggle-requires : tie.Need-count-toggle-requires
 count-toggle-requires c κs =
@@ -72,7 +72,7 @@ count-toggle-requires c κs =
 flip-requires : tie.Need-flip-requires
 flip-requires c κs =
     let k = c .before .before .before .before in
-    flip-ready _ _ _ _ _ _ _ (fits k .halftone) _ (s k .pre .1 .0) _ _ (inside k .0) (inside k .1)
+    flip-ready _ _ _ _ _ _ _ (fits k .plate .halftone) _ (s k .pre .1 .0) _ _ (inside k .0) (inside k .1)
     (fits k .state .table-is) (bytes k)
 
 same-length : tie.Need-same-length
@@ -88,14 +88,14 @@ returns c =
     let count = flip .before .before .before in
     let k = count .before .before in
     let dots = s k .args .dots .now in
-    let as-made = toggle-made dots (fits k .halftone .bits) (q k) in (
+    let as-made = toggle-made dots (fits k .plate .halftone .bits) (q k) in (
       count .count-toggle .ensures
           ∙ counted-is (t k) dots (s k .args .stats) (toggle dots (q k)) (fits k .state .error-is)
           (back k ∙ s k .pre .1 .1 .1 .0),
       (
         flip .flip .ensures .0 ∙ sym as-made,
         flip .flip .ensures .1
-            ∙ flip-is _ _ _ _ _ _ _ (fits k .halftone) _ (s k .pre .1 .0) _ _ (inside k .0) (inside k .1)
+            ∙ flip-is _ _ _ _ _ _ _ (fits k .plate .halftone) _ (s k .pre .1 .0) _ _ (inside k .0) (inside k .1)
             (fits k .state .table-is)
             ∙ ap (filteredErrors (t k)) (sym as-made),
       ),

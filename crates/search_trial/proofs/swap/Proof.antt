@@ -31,7 +31,7 @@ module _ (k : tie.After-slice-known) where
 weigh-swap-requires : tie.Need-weigh-swap-requires
 weigh-swap-requires c κs =
     let k = c .before .before in
-    (fits k .halftone, (fits k .state .table-is, s k .pre .1))
+    (fits k .plate .halftone, (fits k .state .table-is, s k .pre .1))
 
 -- the change as its local holds it
 module _ (c : tie.After-weigh-swap) where

@@ -6,7 +6,7 @@ use borrow.Author.Needs.{needs}
 use lib.ListN.{length}
 use Rattle.model.specs.Refusal.{HalftoneFits, startRefusal}
 use Rattle.model.specs.Screen.{startDots}
-use Rattle.model.proofs.Refusal.{start-given, start-fits}
+use Rattle.model.proofs.Refusal.{start-given, start-plate}
 use Rattle.model.proofs.Start.{start-refused, start-done}
 use Rattle.starts.proofs.start.Statement.{statement}
 use Rattle.starts.proofs.start.Tie as tie
@@ -35,7 +35,7 @@ module _ (c : tie.Else1) where
       (s .args .psf .now) (s .args .gray .now) dots (length (s .args .table .now))
 
   fits : Fits (startDots (s .args .measures) (s .args .gray .now) (s .args .dots .now))
-  fits = start-fits _ _ _ _ _ taken
+  fits = start-plate _ _ _ _ _ taken .halftone
 
 start-dots-requires : tie.Need-start-dots-requires
 start-dots-requires c κs =
