@@ -12,9 +12,9 @@ use lib.ListN.{length, drop, getD, length-drop}
 use lib.Seq.{getD-drop}
 use Rattle.model.specs.declared.Item.the-variants.{Number}
 use Rattle.model.specs.Basic.{pick}
-use Rattle.model.specs.Text.{isDigit, digits, step, stepAt}
+use Rattle.model.specs.Text.{isDigit, digits, capped, step, stepAt}
 use Rattle.model.specs.Format.{Part, fixed, number, textOf, isAt, place, fixedAt, field, fieldBy, fieldAt, parse}
-use Rattle.model.proofs.Text.{and-true, capped, item-back}
+use Rattle.model.proofs.Text.{and-true, item-back}
 use Rattle.model.proofs.Format.{numbers, Inside, inside-length, Good}
 use Rattle.model.proofs.Agrees.{after}
 

@@ -36,8 +36,8 @@ use Rattle.model.specs.Calls.{laterCall, toggleCall, swapCall, convergeC
 use Rattle.model.specs.Lists.{Call, convergence, Result, tried, rested, Held, latest, answering}
 use Rattle.model.specs.Lists.{handOn, call, run}
 use Rattle.model.specs.Lists.{begin, acceptedBy, referenceCall, referenceRun, Expected, Rest}
-use Rattle.model.specs.Sheet.{Sheet, cellsOf, sheetText, Valid, Begins, Stops}
-use Rattle.model.specs.Format.{headOf, fits as roomFor, Read, readSheet}
+use Rattle.model.specs.Sheet.{Sheet, cellsOf, sheetText, Valid, Begins, Stops, roomFor}
+use Rattle.model.specs.Format.{headOf, Read, readSheet}
 use Rattle.model.specs.SheetCalls.{result as written, withGiven, writtenSheet, readCall, writeCall}
 use Rattle.model.specs.Program.{refusedText, statsText, convergedText, startedText, processedText}
 use Rattle.model.specs.Program.{handedDots, output}

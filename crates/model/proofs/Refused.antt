@@ -18,9 +18,9 @@ use Rattle.model.specs.declared.Measures.{Measures}
 use Rattle.model.specs.declared.Place.{Place}
 use Rattle.model.specs.Text.{stepAt}
 use Rattle.model.specs.Sheet.{Sheet, entriesOf, cellsOf, dotsIn, valuesOf, sheetText, Shaped, InRange}
-use Rattle.model.specs.Sheet.{Begins, Stops}
+use Rattle.model.specs.Sheet.{Begins, Stops, roomFor}
 use Rattle.model.specs.Format.{Part, fixed, number, head, body, textOf, isAt, fixedAt, fieldBy, fieldAt}
-use Rattle.model.specs.Format.{Parsed, parse, measuresOf, headOf, fits, Read, sheetOf, bodyEnd, readSheet}
+use Rattle.model.specs.Format.{Parsed, parse, measuresOf, headOf, Read, sheetOf, bodyEnd, readSheet}
 use Rattle.model.proofs.Basic.{pick-cases, zero-cases}
 use Rattle.model.proofs.Format.{good-head, good-body}
 use Rattle.model.proofs.Agrees.{Agrees, agrees-on, parse-agrees, parse-rises}
@@ -90,7 +90,7 @@ module _ (b : List ℕ) (p g d : ℕ) where
   pub twelve-lacks : readSheet b p g d .refusal ≡ 12
       → (headOf b .refusal ≡ 0)
       × (readSheet b p g d .at ≡ headOf b .at)
-      × (fits (headOf b .measures) p g d ≡ false)
+      × (roomFor (headOf b .measures) p g d ≡ false)
   unfolding headOf
   twelve-lacks =
       by-cases {Q = Q} (record {
@@ -104,7 +104,7 @@ module _ (b : List ℕ) (p g d : ℕ) where
       Q : Read → Type 0
       Q r =
           r .refusal ≡ 12
-          → (first b .refusal ≡ 0) × (r .at ≡ first b .at) × (fits (measured b) p g d ≡ false)
+          → (first b .refusal ≡ 0) × (r .at ≡ first b .at) × (roomFor (measured b) p g d ≡ false)
 
       other : {A : Type 0} {n : ℕ} → Drawn n → n ≡ 12 → A
       other (inl e) y = absurd (omega arith)

@@ -14,7 +14,8 @@ use Rattle.model.specs.declared.Item.the-variants.{Word, Number, LineEnd
 use Rattle.model.specs.declared.Run.{Run}
 use Rattle.model.specs.declared.Step.{Step}
 use Rattle.model.specs.Basic.{pick}
-use Rattle.model.specs.Text.{isLetter, isDigit, digitsIn, digits, grow, runFrom, step, numberStep, itemFrom}
+use Rattle.model.specs.Text.{isLetter, isDigit, digitsIn, digits, capped, grow, NoDigit, runFrom, step}
+use Rattle.model.specs.Text.{numberStep, itemFrom}
 
 -- ---- the digits of a number
 same-digits : (f g n : ℕ) → n ≤ f → n ≤ g → digitsIn f n ≡ digitsIn g n
@@ -69,10 +70,6 @@ digit-range b e =
     (leb-true 48 b (p .0), leb-true b 57 (p .1))
 
 -- ---- from the digits to what is read
--- 257 stands for all above 256
-abbrev pub capped : ℕ → ℕ
-capped n = pick (ltb n 257) n 257
-
 digit : (r : ℕ) → r < 10 → isDigit (48 + r) ≡ true
 digit r h = rw (le-leb 48 (48 + r) (omega arith), le-leb (48 + r) 57 (omega arith))
 
@@ -133,11 +130,6 @@ run-on (suc f) n h at rest = go (ltb n 10) refl (λ l. run-on f (n / 10) l at)
           length-append,
           add-assoc,
         )
-
--- what follows a number is no digit
-abbrev NoDigit : List ℕ → Type 0
-NoDigit [] = Unit
-NoDigit (x ∷ xs) = isDigit x ≡ false
 
 run-stops : (rest : List ℕ) → NoDigit rest → (v i : ℕ) → runFrom v i rest ≡ record { value = v; end = i }
 run-stops [] h v i = refl
