@@ -22,7 +22,7 @@ use Rattle.model.specs.Sheet.{Begins, Stops, roomFor}
 use Rattle.model.specs.Format.{Part, fixed, number, head, body, textOf, isAt, fixedAt, fieldBy, fieldAt}
 use Rattle.model.specs.Format.{Parsed, parse, measuresOf, headOf, Read, sheetOf, bodyEnd, readSheet}
 use Rattle.model.proofs.Basic.{pick-cases, zero-cases}
-use Rattle.model.proofs.Format.{good-head, good-body}
+use Rattle.model.proofs.Format.{good-head, good-body, Drawn, parse-draws}
 use Rattle.model.proofs.Agrees.{Agrees, agrees-on, parse-agrees, parse-rises}
 use Rattle.model.proofs.Parse.{ReadAs, text-read}
 use Rattle.model.proofs.Sheet.{bodyText, text-head, valuesIn, text-body, text-parts, values-shaped}
@@ -31,42 +31,6 @@ use Rattle.model.proofs.Sheet.{by-cases, head-values, head-in-range, no
 use Rattle.model.proofs.Unseen.{parse-local}
 
 -- ---- which refusals there are
--- of parts: 10 and 11
-abbrev Drawn : ℕ → Type 0
-Drawn n = (n ≡ 0) ⊎ (n ≡ 10) ⊎ (n ≡ 11)
-
-fixed-draws : (bs s : List ℕ) (at : ℕ) → Drawn (fixedAt bs s at .refusal)
-fixed-draws [] s at = inl refl
-fixed-draws (b ∷ bs) s at =
-    pick-cases (λ (p : Place). Drawn (p .refusal)) (isAt b s at) (λ t. fixed-draws bs s (at + 1)) (λ t. inr (inl refl))
-
-field-draws : (lo hi end : ℕ) (s : List ℕ) (at : ℕ) → Drawn (fieldAt lo hi end s at .refusal)
-unfolding fieldAt
-field-draws lo hi end s at = go (stepAt s at .item)
-  where
-    Q : Field → Type 0
-    Q f = Drawn (f .refusal)
-
-    go : (i : Item) → Q (fieldBy lo hi end s i (stepAt s at .at) (stepAt s at .next))
-    go Word = inr (inl refl)
-    go LineEnd = inr (inl refl)
-    go Other = inr (inl refl)
-    go (Number v) =
-        pick-cases Q (leb lo v && leb v hi)
-        (λ t. pick-cases Q (isAt end s (stepAt s at .next)) (λ u. inl refl) (λ u. inr (inl refl)))
-        (λ t. inr (inr refl))
-
-parse-draws : (ps : List Part) (s : List ℕ) (at : ℕ) → Drawn (parse ps s at .refusal)
-parse-draws [] s at = inl refl
-parse-draws (fixed bs ∷ ps) s at =
-    let p = fixedAt bs s at in
-    zero-cases (λ (r : Parsed). Drawn (r .refusal)) (p .refusal) (λ z. parse-draws ps s (p .at))
-    (λ z. fixed-draws bs s at)
-parse-draws (number lo hi end ∷ ps) s at =
-    let f = fieldAt lo hi end s at in
-    zero-cases (λ (r : Parsed). Drawn (r .refusal)) (f .refusal) (λ z. parse-draws ps s (f .at))
-    (λ z. field-draws lo hi end s at)
-
 -- of the reader: these and 12, which stands at the end of line 2 where the buffers are too short
 module _ (b : List ℕ) (p g d : ℕ) where
   abbrev Answered : ℕ → Type 0
@@ -155,7 +119,7 @@ blank-shaped m = record {
 head-begins : (b : List ℕ) → Begun b (parse head b 0 .at)
 unfolding blank
 head-begins b =
-    let (vs, l, r, w) = parse-agrees head good-head b 0 in
+    let (vs, l, r, w, _) = parse-agrees head good-head b 0 in
     let s = blank (measuresOf vs) in
     agrees-begins s (blank-shaped (measuresOf vs)) (bodyText s)
     (text-head s ∙ ap (λ (k : List ℕ). textOf head k ++ bodyText s) (five vs (l ∙ numbers-head))) r
@@ -165,8 +129,8 @@ body-begins : (b : List ℕ) → first b .refusal ≡ 0 → Begun b (second b .a
 unfolding headOf
 body-begins b z =
     let m = measured b in
-    let (vs, l, r, w) = parse-agrees head good-head b 0 in
-    let (us, k, q, _) = parse-agrees (body m) (good-body m) b (first b .at) in
+    let (vs, l, r, w, _) = parse-agrees head good-head b 0 in
+    let (us, k, q, _, _) = parse-agrees (body m) (good-body m) b (first b .at) in
     let s = sheetOf m us in
     let shaped = values-shaped m us k in
     let t =
@@ -258,7 +222,7 @@ text-never s shaped p g d =
 
     rows : first b .refusal ≡ 0 → ReadAs head b 0 (valuesOf m) (bodyText s)
         → ReadAs (body (measured b)) b (first b .at) (valuesIn s) []
-    rows z (inl (_, v, e)) =
+    rows z (inl (_, v, e, _)) =
         let n : measured b ≡ m = ap measuresOf v in
         let t =
         e
@@ -266,7 +230,7 @@ text-never s shaped p g d =
         ∙ sym (append-nil (textOf (body m) (valuesIn s))) in
         subst (λ k. ReadAs (body k) b (first b .at) (valuesIn s) []) (sym n)
         (text-read (body m) (good-body m) b (first b .at) (valuesIn s) [] (values-in-length s shaped) t)
-    rows z (inr (x, o)) = absurd (omega arith)
+    rows z (inr (x, _, o)) = absurd (omega arith)
 
 -- ---- the place that the reader answers
 module _ (b : List ℕ) (p g d : ℕ) where

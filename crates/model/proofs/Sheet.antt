@@ -337,10 +337,10 @@ pub read-back : (b : List ℕ) (p g d : ℕ) (s : Sheet) → b ≡ sheetText s �
 read-back b p g d s e v f =
     let at = first b .at in
     let text = textOf (body m) (valuesIn s) in
-    let (z, k, x) = inside-read head good-head b 0 (valuesOf m) text (head-inside m (v .in-range))
+    let (z, k, x, _) = inside-read head good-head b 0 (valuesOf m) text (head-inside m (v .in-range))
     (e ∙ text-parts s (v .shaped) (v .in-range .wide .0)) in
     let n : m ≡ measured b = sym (ap measuresOf k) in
-    let (y, l, w) = subst (λ k. ReadWhole (body k) b at (valuesIn s) []) n
+    let (y, l, w, _) = subst (λ k. ReadWhole (body k) b at (valuesIn s) []) n
     (inside-read (body m) (good-body m) b at (valuesIn s) [] (body-inside s v) (x ∙ sym (append-nil text))) in
     by-cases {Q = λ (r : Read). (r .refusal ≡ 0) × (r .sheet ≡ s)} (record {
       cut-head = λ c. absurd (c z);
