@@ -19,8 +19,8 @@ use Rattle.model.specs.Basic.{pick}
 use Rattle.model.specs.Text.{isLetter, isDigit, digits, capped, NoDigit, step, itemFrom, stepAt}
 use Rattle.model.specs.Format.{Part, fixed, number, textOf, isAt, fixedAt, field, fieldBy, fieldAt, Parsed, parse}
 use Rattle.model.proofs.Basic.{pick-cases, zero-cases}
-use Rattle.model.proofs.Text.{digits-low, and-true, Beyond, beyond, capped-inside, capped-low, item-back}
-use Rattle.model.proofs.Text.{Stands, item-stands}
+use Rattle.model.proofs.Text.{digits-low, and-true, Beyond, beyond, capped-inside, capped-low, item-back, Stands}
+use Rattle.model.proofs.Text.{item-stands}
 use Rattle.model.proofs.Format.{numbers, Inside, OutsideAt, Good, fixed-draws}
 
 -- ---- bytes
@@ -179,11 +179,11 @@ field-agrees lo hi end k s at = go (stepAt s at .item) refl
             let (l, u) = and-true (leb lo v) (leb v hi) t in
             let h = leb-true v hi u in
             let c = capped-low v (omega arith) in
-            let d = rw (append-nil (digits v)) at (agrees-part {s = s} {at = at} {n = 0} (digits v) [] rest (λ y. refl) p) in
+            let d : Agrees s at 0 e (digits v ++ []) = agrees-part (digits v) [] rest (λ y. refl) p in
             pick-cases Held (isAt end s e)
             (λ f. (
               v,
-              agrees-on d (byte-agrees s e end f),
+              agrees-on (rw (append-nil (digits v)) at d) (byte-agrees s e end f),
               λ y. (sym c, leb-true lo v l, h),
               λ y. absurd (omega arith),
             ))

@@ -15,8 +15,8 @@ use Rattle.model.specs.declared.Measures.{Measures}
 use Rattle.model.specs.declared.Place.{Place}
 use Rattle.model.specs.Text.{isDigit, digits, stepAt}
 use Rattle.model.specs.Sheet.{sideOf, entriesOf, cellsOf, endOf}
-use Rattle.model.specs.Format.{Part, fixed, number, grid, head, psfBlock, grayBlock, dotsBlock, body}
-use Rattle.model.specs.Format.{textOf, isAt, fixedAt, fieldBy, fieldAt, Parsed, parsed, onFixed, onField, parse, placeOf}
+use Rattle.model.specs.Format.{Part, fixed, number, grid, head, psfBlock, grayBlock, dotsBlock, body, textOf}
+use Rattle.model.specs.Format.{isAt, fixedAt, fieldBy, fieldAt, Parsed, parsed, onFixed, onField, parse, placeOf}
 use Rattle.model.specs.Format.{parseNext}
 use Rattle.model.proofs.Basic.{pick-cases, zero-cases, pick-cong}
 use Rattle.model.proofs.Text.{Beyond}

@@ -1,20 +1,20 @@
 -- The text of values is read: as these values, or with refusal 11 where one is outside its field.
 use mathlib.Core.Path.{_≡_, refl, _∙_, ap, sym}
-use mathlib.Core.Bool.{Bool, true, false, true≢false, _&&_, and-false}
+use mathlib.Core.Bool.{Bool, true, false, true≢false, _&&_}
 use mathlib.Core.Logic.{_⊎_, inl, inr, ⊎-elim, ⊎-map}
 use mathlib.Core.List.{List, [], _∷_, _++_, append-assoc}
 use Prim.Native.Nat.{ℕ, suc, _+_, _-_, _≤_, _<_}
 use native.Mathlib.Nat.{add-zero}
 use native.Mathlib.Omega.{arith}
-use borrow.Author.Tests.{ltb-false, lt-ltb, le-leb, lt-leb, leb-true, eq-eqb}
-use lib.Dec.{leb, ltb}
+use borrow.Author.Tests.{lt-ltb, le-leb, leb-true, eq-eqb}
+use lib.Dec.{leb}
 use lib.ListN.{length, drop, getD, length-append, length-drop}
 use lib.Seq.{getD-drop}
 use Rattle.model.specs.declared.Item.the-variants.{Number}
 use Rattle.model.specs.Basic.{pick}
 use Rattle.model.specs.Text.{isDigit, digits, capped, NoDigit, step, stepAt}
 use Rattle.model.specs.Format.{Part, fixed, number, textOf, isAt, place, fixedAt, field, fieldBy, fieldAt, parse}
-use Rattle.model.proofs.Text.{and-true, Beyond, beyond-false, capped-inside, capped-low, item-back}
+use Rattle.model.proofs.Text.{and-true, Beyond, beyond-false, capped-inside, item-back}
 use Rattle.model.proofs.Format.{numbers, Inside, inside-length, OutsideAt, Good}
 use Rattle.model.proofs.Agrees.{after}
 
@@ -130,7 +130,7 @@ text-read (number lo hi end ∷ ps) g s at (v ∷ vs) rest n e =
             true≢false (sym q ∙ b)
 
 -- a value outside its field, as a whole run of digits after the text of those before it: refusal 11, there or before
-abbrev RefusedBy : List Part → List ℕ → (at o : ℕ) → Type 0
+abbrev pub RefusedBy : List Part → List ℕ → (at o : ℕ) → Type 0
 RefusedBy ps s at o = (parse ps s at .refusal ≡ 11) × (parse ps s at .at ≤ o)
 
 pub outside-read : (ps : List Part) → Good ps → (s : List ℕ) (at : ℕ) (vs before : List ℕ) (v : ℕ) (rest : List ℕ)

@@ -1,27 +1,19 @@
 -- The reader's refusals: which there are, and 12 where room lacks; what stands before its place begins a sheet; and
 -- refusal 10 without the reader: with its place none begins.
 use mathlib.Core.Path.{_≡_, refl, _∙_, ap, ap₂, sym, subst}
-use mathlib.Core.Bool.{false, _&&_}
+use mathlib.Core.Bool.{false}
 use mathlib.Core.Logic.{_⊎_, inl, inr, ⊎-elim}
-use mathlib.Core.List.{List, [], _∷_, _++_, append-assoc, append-nil}
+use mathlib.Core.List.{List, [], _++_, append-assoc, append-nil}
 use Prim.Native.Nat.{ℕ, _+_, _≤_, _<_}
 use native.Mathlib.Decide.{decLt}
 use native.Mathlib.Omega.{arith}
 use borrow.Author.Tests.{lt-leb, eq-eqb, ne-eqb}
-use lib.Dec.{leb}
 use lib.ListN.{length, take, drop, replicate, length-append, length-replicate, take-append-drop}
 use lib.Seq.{take-at, length-take-le}
-use Rattle.model.specs.declared.Field.{Field}
-use Rattle.model.specs.declared.Item.{Item}
-use Rattle.model.specs.declared.Item.the-variants.{Word, Number, LineEnd, Other}
 use Rattle.model.specs.declared.Measures.{Measures}
-use Rattle.model.specs.declared.Place.{Place}
-use Rattle.model.specs.Text.{stepAt}
-use Rattle.model.specs.Sheet.{Sheet, entriesOf, cellsOf, dotsIn, valuesOf, sheetText, Shaped, InRange}
-use Rattle.model.specs.Sheet.{Begins, Stops, roomFor}
-use Rattle.model.specs.Format.{Part, fixed, number, head, body, textOf, isAt, fixedAt, fieldBy, fieldAt}
-use Rattle.model.specs.Format.{Parsed, parse, measuresOf, headOf, Read, sheetOf, bodyEnd, readSheet}
-use Rattle.model.proofs.Basic.{pick-cases, zero-cases}
+use Rattle.model.specs.Sheet.{Sheet, entriesOf, cellsOf, dotsIn, valuesOf, sheetText, Shaped, InRange, Begins}
+use Rattle.model.specs.Sheet.{Stops, roomFor}
+use Rattle.model.specs.Format.{head, body, textOf, parse, measuresOf, headOf, Read, sheetOf, bodyEnd, readSheet}
 use Rattle.model.proofs.Format.{good-head, good-body, Drawn, parse-draws}
 use Rattle.model.proofs.Agrees.{Agrees, agrees-on, parse-agrees, parse-rises}
 use Rattle.model.proofs.Parse.{ReadAs, text-read}
@@ -76,7 +68,7 @@ module _ (b : List ℕ) (p g d : ℕ) where
       other (inr (inr e)) y = absurd (omega arith)
 
 -- ---- what stands before the place of the reader begins a sheet
-abbrev Begun : List ℕ → ℕ → Type 0
+abbrev pub Begun : List ℕ → ℕ → Type 0
 Begun b o = (o ≤ length b) × Begins (take o b)
 
 agrees-begins : {b : List ℕ} {n o : ℕ} {t : List ℕ} (s : Sheet) → Shaped s → (more : List ℕ)
@@ -100,7 +92,7 @@ agrees-begins {b} {n} {o} s h more e r =
     )
 
 -- in lines 1 and 2: a sheet with such measures
-blank : Measures → Sheet
+unfoldable pub blank : Measures → Sheet
 blank m = record {
   measures = m;
   psf = replicate (entriesOf m) 0;
@@ -108,7 +100,7 @@ blank m = record {
   dots = replicate (dotsIn m) 0;
 }
 
-blank-shaped : (m : Measures) → Shaped (blank m)
+pub blank-shaped : (m : Measures) → Shaped (blank m)
 unfolding blank
 blank-shaped m = record {
   psf-length = length-replicate (entriesOf m) 0;
@@ -138,7 +130,7 @@ body-begins b z =
     ∙ ap₂ (λ k x. textOf head k ++ textOf (body m) x) (head-values b z ∙ sym (w z .0)) (sheet-values m us) in
     agrees-begins s shaped [] (t ∙ sym (append-nil (textOf head vs ++ textOf (body m) us))) (agrees-on (rw z at r) q)
 
-reader-begins : (b : List ℕ) (p g d : ℕ) → Begun b (readSheet b p g d .at)
+pub reader-begins : (b : List ℕ) (p g d : ℕ) → Begun b (readSheet b p g d .at)
 reader-begins b p g d =
     by-cases {Q = λ (r : Read). Begun b (r .at)} (record {
       cut-head = λ z. head-begins b;
@@ -236,6 +228,10 @@ text-never s shaped p g d =
 module _ (b : List ℕ) (p g d : ℕ) where
   abbrev o : ℕ
   o = readSheet b p g d .at
+
+  -- it lies within the input
+  pub read-within : readSheet b p g d .at ≤ length b
+  read-within = reader-begins b p g d .0
 
   -- what stands before it begins a sheet
   pub read-begins : Begins (take (readSheet b p g d .at) b)

@@ -47,7 +47,7 @@ abbrev pub valuesIn : Sheet → List ℕ
 valuesIn s = s .psf ++ (s .gray ++ s .dots)
 
 module _ (w h hi : ℕ) (vs : List ℕ) (p : 1 ≤ w) (e : length vs ≡ h * w) where
-  grid-text : textOf (grid w hi 0 (h * w)) vs ≡ rows w h vs
+  pub grid-text : textOf (grid w hi 0 (h * w)) vs ≡ rows w h vs
   grid-text = ap (λ n. textOf (grid w hi 0 n) vs) (sym e) ∙ text-grid w hi 0 vs ∙ rows-grid w h vs p e
 
   block-text : (name : List ℕ) (ps : List Part) (us : List ℕ)
@@ -253,9 +253,10 @@ pub record Cases (b : List ℕ) (p g d : ℕ) (Q : Read → Type 0) : Type 0 whe
   pub no-room : first b .refusal ≡ 0 → roomFor (measured b) p g d ≡ false → Q (refusedAt (measured b) 12 (first b .at))
   pub cut-body : first b .refusal ≡ 0 → roomFor (measured b) p g d ≡ true → (second b .refusal ≡ 0 → ⊥)
       → Q (refusedAt (measured b) (second b .refusal) (second b .at))
-  pub too-long : first b .refusal ≡ 0 → roomFor (measured b) p g d ≡ true → second b .refusal ≡ 0 → second b .at < length b
-      → Q (refusedAt (measured b) 10 (second b .at))
-  pub whole : first b .refusal ≡ 0 → roomFor (measured b) p g d ≡ true → second b .refusal ≡ 0 → length b ≤ second b .at
+  pub too-long : first b .refusal ≡ 0 → roomFor (measured b) p g d ≡ true → second b .refusal ≡ 0
+      → second b .at < length b → Q (refusedAt (measured b) 10 (second b .at))
+  pub whole : first b .refusal ≡ 0 → roomFor (measured b) p g d ≡ true → second b .refusal ≡ 0
+      → length b ≤ second b .at
       → Q (record { refusal = 0; at = second b .at; sheet = sheetOf (measured b) (second b .values) })
 
 pub by-cases : {b : List ℕ} {p g d : ℕ} {Q : Read → Type 0} → Cases b p g d Q → Q (readSheet b p g d)

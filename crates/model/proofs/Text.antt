@@ -1,20 +1,19 @@
 -- Laws of texts: the digits of a number and those of its tenth, the digits read back as the number (257 where it is
 -- above 256, whatever its length), and the number that was read as its digits.
-use mathlib.Core.Path.{_≡_, refl, _∙_, ap, sym, subst}
+use mathlib.Core.Path.{_≡_, refl, _∙_, ap, sym}
 use mathlib.Core.Bool.{Bool, true, false, true≢false, _&&_, and-eq-true-iff, and-false}
 use mathlib.Core.Logic.{_⊎_, inl, inr}
-use mathlib.Core.List.{List, [], _∷_, _++_, append-assoc, append-nil}
+use mathlib.Core.List.{List, [], _∷_, _++_, append-assoc}
 use Prim.Native.Nat.{ℕ, zero, suc, _+_, _-_, _*_, _/_, _%_, _^_, _≤_, _<_}
-use native.Mathlib.Nat.{add-zero, add-assoc, le-refl, pow-suc}
+use native.Mathlib.Nat.{add-assoc, le-refl, pow-suc}
 use native.Mathlib.Omega.{arith}
-use borrow.Author.Tests.{ltb-true, ltb-false, lt-ltb, le-ltb, le-leb, lt-leb, leb-true, leb-false, eqb-true, eqb-false, ne-eqb}
+use borrow.Author.Tests.{ltb-true, ltb-false, lt-ltb, le-ltb, le-leb, lt-leb, leb-true, leb-false, eqb-true, eqb-false}
+use borrow.Author.Tests.{ne-eqb}
 use lib.Dec.{leb, ltb, eqb}
 use lib.ListN.{length, length-append}
-use Rattle.model.specs.declared.Item.{Item}
 use Rattle.model.specs.declared.Item.the-variants.{Word, Number, LineEnd, Other}
 use Rattle.model.specs.declared.Run.{Run}
 use Rattle.model.specs.declared.Step.{Step}
-use Rattle.model.specs.Basic.{pick}
 use Rattle.model.specs.Text.{isLetter, isDigit, digitsIn, digits, capped, grow, NoDigit, runFrom, step}
 use Rattle.model.specs.Text.{numberStep, itemFrom}
 
@@ -48,6 +47,14 @@ length-low n h = ap length (digits-low n h)
 
 pub length-more : (n : ℕ) → 10 ≤ n → length (digits n) ≡ length (digits (n / 10)) + 1
 length-more n h = ap length (digits-more n h) ∙ simp length-append
+
+-- every number has a digit
+pub digits-some : (n : ℕ) → 1 ≤ length (digits n)
+digits-some n = go (ltb n 10) refl
+  where
+    go : (b : Bool) → ltb n 10 ≡ b → 1 ≤ length (digits n)
+    go true e = omega (arith, length-low n (ltb-true n 10 e))
+    go false e = omega (arith, length-more n (ltb-false n 10 e))
 
 -- a number below 10 ^ (k + 1) has at most k + 1 digits
 pub length-most : (k n : ℕ) → n < 10 ^ suc k → length (digits n) ≤ suc k
