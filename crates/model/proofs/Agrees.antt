@@ -19,8 +19,8 @@ use Rattle.model.specs.Basic.{pick}
 use Rattle.model.specs.Text.{isLetter, isDigit, digits, capped, NoDigit, step, itemFrom, stepAt}
 use Rattle.model.specs.Format.{Part, fixed, number, textOf, isAt, fixedAt, field, fieldBy, fieldAt, Parsed, parse}
 use Rattle.model.proofs.Basic.{pick-cases, zero-cases}
-use Rattle.model.proofs.Text.{digits-low, and-true, Beyond, beyond, capped-inside, capped-low, item-back, Stands}
-use Rattle.model.proofs.Text.{item-stands}
+use Rattle.model.proofs.Text.{digits-low, and-true, Beyond, beyond, capped-inside, capped-low, number-yielded}
+use Rattle.model.proofs.Text.{yielded-number}
 use Rattle.model.proofs.Format.{numbers, Inside, OutsideAt, Good, fixed-draws}
 
 -- ---- bytes
@@ -202,17 +202,14 @@ field-agrees lo hi end k s at = go (stepAt s at .item) refl
           λ y. (rest, p, nd, beyond lo hi v t, refl),
         )
 
-    held : Stands (drop at s) → Held (fieldBy lo hi end s (stepAt s at .item) (stepAt s at .at) (stepAt s at .next))
-    held (v, rest, p, nd) =
-        let st : stepAt s at ≡ step (Number (capped v)) at (at + length (digits v)) = rw p (item-back v rest nd at) in
-        rw st (numbered v rest p nd)
-
     go : (i : Item) → stepAt s at .item ≡ i
         → Held (fieldBy lo hi end s (stepAt s at .item) (stepAt s at .at) (stepAt s at .next))
     go Word q = rw q none
     go LineEnd q = rw q none
     go Other q = rw q none
-    go (Number w) q = held (item-stands at (drop at s) w q)
+    go (Number w) q =
+        let (v, rest, p, nd, _) = yielded-number s at w q in
+        rw (number-yielded s at v rest p nd) (numbered v rest p nd)
 
 -- a whole run of digits stands at the place o: the number of one of the values, which is outside its field
 pub record Misses (ps : List Part) (s : List ℕ) (at : ℕ) (vs : List ℕ) (o : ℕ) : Type 0 where

@@ -14,7 +14,7 @@ use Rattle.model.specs.declared.Item.the-variants.{Number}
 use Rattle.model.specs.Basic.{pick}
 use Rattle.model.specs.Text.{isDigit, digits, capped, NoDigit, step, stepAt}
 use Rattle.model.specs.Format.{Part, fixed, number, textOf, isAt, place, fixedAt, field, fieldBy, fieldAt, parse}
-use Rattle.model.proofs.Text.{and-true, Beyond, beyond-false, capped-inside, item-back}
+use Rattle.model.proofs.Text.{and-true, Beyond, beyond-false, capped-inside, number-yielded}
 use Rattle.model.proofs.Format.{numbers, Inside, inside-length, OutsideAt, Good}
 use Rattle.model.proofs.Agrees.{after}
 
@@ -46,7 +46,7 @@ field-back lo hi end s at v rest k d e = go (leb lo v && leb v hi) refl
     next = at + length (digits v)
 
     read : stepAt s at ≡ step (Number (capped v)) at next
-    read = rw e (item-back v (end ∷ rest) d at)
+    read = number-yielded s at v (end ∷ rest) e d
 
     stands : isAt end s next ≡ true
     stands = byte-back s next end rest (after s at (digits v) (end ∷ rest) e)
@@ -65,7 +65,8 @@ field-out : (lo hi end : ℕ) (s : List ℕ) (at v : ℕ) (rest : List ℕ) → 
     → drop at s ≡ digits v ++ rest → Beyond lo hi v → fieldAt lo hi end s at ≡ field 11 at 0
 unfolding fieldAt
 field-out lo hi end s at v rest k nd e b =
-    let read : stepAt s at ≡ step (Number (capped v)) at (at + length (digits v)) = rw e (item-back v rest nd at) in
+    let read : stepAt s at ≡ step (Number (capped v)) at (at + length (digits v)) =
+    number-yielded s at v rest e nd in
     rw (read, capped-inside lo hi v k, beyond-false lo hi v b)
 
 -- ---- parts

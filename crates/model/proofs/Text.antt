@@ -10,12 +10,12 @@ use native.Mathlib.Omega.{arith}
 use borrow.Author.Tests.{ltb-true, ltb-false, lt-ltb, le-ltb, le-leb, lt-leb, leb-true, leb-false, eqb-true, eqb-false}
 use borrow.Author.Tests.{ne-eqb}
 use lib.Dec.{leb, ltb, eqb}
-use lib.ListN.{length, length-append}
+use lib.ListN.{length, drop, length-append}
 use Rattle.model.specs.declared.Item.the-variants.{Word, Number, LineEnd, Other}
 use Rattle.model.specs.declared.Run.{Run}
 use Rattle.model.specs.declared.Step.{Step}
 use Rattle.model.specs.Text.{isLetter, isDigit, digitsIn, digits, capped, grow, NoDigit, runFrom, step}
-use Rattle.model.specs.Text.{numberStep, itemFrom}
+use Rattle.model.specs.Text.{numberStep, itemFrom, stepAt}
 
 -- ---- the digits of a number
 same-digits : (f g n : ℕ) → n ≤ f → n ≤ g → digitsIn f n ≡ digitsIn g n
@@ -105,8 +105,11 @@ capped-inside lo hi v k = go (ltb v 257) refl
         rw (t, lt-leb 257 hi (omega arith), lt-leb v hi (omega arith))
         (and-false (leb lo 257) ∙ sym (and-false (leb lo v)))
 
-pub capped-low : (v : ℕ) → v ≤ 256 → capped v ≡ v
-capped-low v h = rw (lt-ltb v 257 (omega arith))
+pub capped-low : (n : ℕ) → n ≤ 256 → capped n ≡ n
+capped-low n h = rw (lt-ltb n 257 (omega arith))
+
+pub capped-high : (n : ℕ) → 256 < n → capped n ≡ 257
+capped-high n h = rw (le-ltb n 257 (omega arith))
 
 digit : (r : ℕ) → r < 10 → isDigit (48 + r) ≡ true
 digit r h = rw (le-leb 48 (48 + r) (omega arith), le-leb (48 + r) 57 (omega arith))
@@ -211,8 +214,7 @@ item-first at x xs r lo hi g =
     let z : eqb x 48 ≡ false = ne-eqb x 48 (λ e. omega arith) in
     rw (no-letter x hi, z, g, d)
 
--- the digits of n are read as n, or as 257 where it is above 256
-pub item-back : (n : ℕ) (rest : List ℕ) → NoDigit rest → (at : ℕ)
+item-back : (n : ℕ) (rest : List ℕ) → NoDigit rest → (at : ℕ)
     → itemFrom at (digits n ++ rest) ≡ step (Number (capped n)) at (at + length (digits n))
 item-back zero rest nd at =
     let e : runFrom 0 at (48 ∷ rest) ≡ record { value = 0; end = at + 1 } =
@@ -226,7 +228,6 @@ item-back (suc m) rest nd at =
     rw (ap (λ (l : List ℕ). l ++ rest) q) at g in
     ap (λ (l : List ℕ). itemFrom at (l ++ rest)) q ∙ item-first at x (xs ++ rest) _ lo hi g′
 
--- ---- from what is read to the digits
 pub run-end : (xs : List ℕ) (v i : ℕ) → i ≤ runFrom v i xs .end
 run-end [] v i = le-refl i
 run-end (x ∷ xs) v i = go (isDigit x) refl (run-end xs (grow v x) (i + 1))
@@ -235,6 +236,19 @@ run-end (x ∷ xs) v i = go (isDigit x) refl (run-end xs (grow v x) (i + 1))
     go true t ih = rw t (omega arith)
     go false t ih = rw t (le-refl i)
 
+-- a number is yielded for its whole run of digits, whatever its length: it, or 257 where it is above 256
+pub number-yielded : (s : List ℕ) (at n : ℕ) (rest : List ℕ) → drop at s ≡ digits n ++ rest → NoDigit rest
+    → stepAt s at ≡ step (Number (capped n)) at (at + length (digits n))
+number-yielded s at n rest e nd = rw e (item-back n rest nd at)
+
+-- in a longer run that begins 0 the second digit cannot be there
+pub leading-zero : (s : List ℕ) (at x : ℕ) (rest : List ℕ) → drop at s ≡ 48 ∷ x ∷ rest → isDigit x ≡ true
+    → stepAt s at ≡ step Other (at + 1) (at + 1)
+leading-zero s at x rest e d =
+    let l = run-end rest (grow (grow 0 48) x) (at + 1 + 1) in
+    rw (e, d, lt-ltb (at + 1) (runFrom (grow (grow 0 48) x) (at + 1 + 1) rest .end) (omega arith))
+
+-- ---- from what is read to the digits
 -- one digit more
 digits-snoc : (v x : ℕ) → 1 ≤ v → 48 ≤ x → x ≤ 57 → digits (v * 10 + (x - 48)) ≡ digits v ++ (x ∷ [])
 digits-snoc v x h l u =
@@ -244,7 +258,7 @@ digits-snoc v x h l u =
     digits-more n (omega arith) ∙ rw (p, q)
 
 -- a whole run of digits, that of a number of any size
-abbrev pub Stands : List ℕ → Type 0
+abbrev Stands : List ℕ → Type 0
 Stands xs = (v : ℕ) × (rest : List ℕ) × (xs ≡ digits v ++ rest) × NoDigit rest
 
 -- the digits of v and those that follow them
@@ -296,8 +310,7 @@ number-stands at x xs v t i = go (eqb x 48) refl
               alone xs (ltb-false (at + 1) (runFrom (grow 0 x) (at + 1) xs .end) d),
             )
 
--- where an item is a number, the whole run of its digits stands
-pub item-stands : (at : ℕ) (xs : List ℕ) (v : ℕ) → itemFrom at xs .item ≡ Number v → Stands xs
+item-stands : (at : ℕ) (xs : List ℕ) (v : ℕ) → itemFrom at xs .item ≡ Number v → Stands xs
 item-stands at [] v h = other-no-number v h
 item-stands at (x ∷ xs) v h = go (isLetter x) refl (isDigit x) refl (eqb x 10) refl
   where
@@ -310,3 +323,11 @@ item-stands at (x ∷ xs) v h = go (isLetter x) refl (isDigit x) refl (eqb x 10)
     go false t false u true w =
         absurd (let j : LineEnd ≡ Number v = rw (t, u, w) at h in let z : _≡_ {A = ℕ} 0 1 = cc in omega arith)
     go false t false u false w = other-no-number v (rw (t, u, w) at h)
+
+-- where a number is yielded stands the whole run of its digits
+pub yielded-number : (s : List ℕ) (at v : ℕ) → stepAt s at .item ≡ Number v
+    → (n : ℕ) × (rest : List ℕ) × (drop at s ≡ digits n ++ rest) × NoDigit rest × (v ≡ capped n)
+yielded-number s at v h =
+    let (n, rest, e, nd) = item-stands at (drop at s) v h in
+    let q : Number v ≡ Number (capped n) = sym h ∙ ap (λ (st : Step). st .item) (number-yielded s at n rest e nd) in
+    (n, rest, e, nd, cc)
