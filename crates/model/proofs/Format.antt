@@ -7,19 +7,19 @@ use Prim.Native.Nat.{ℕ, zero, suc, _+_, _%_, _≤_}
 use native.Mathlib.Omega.{arith}
 use borrow.Author.Tests.{eq-eqb, ne-eqb}
 use lib.Dec.{leb, eqb}
-use lib.ListN.{length}
+use lib.ListN.{length, drop}
 use Rattle.model.specs.declared.Field.{Field}
 use Rattle.model.specs.declared.Item.{Item}
 use Rattle.model.specs.declared.Item.the-variants.{Word, Number, LineEnd, Other}
 use Rattle.model.specs.declared.Measures.{Measures}
 use Rattle.model.specs.declared.Place.{Place}
-use Rattle.model.specs.Text.{isDigit, digits, stepAt}
+use Rattle.model.specs.Text.{isDigit, digits, capped, NoDigit, step, stepAt}
 use Rattle.model.specs.Sheet.{sideOf, entriesOf, cellsOf, endOf}
 use Rattle.model.specs.Format.{Part, fixed, number, grid, head, psfBlock, grayBlock, dotsBlock, body, textOf}
-use Rattle.model.specs.Format.{isAt, fixedAt, fieldBy, fieldAt, Parsed, parsed, onFixed, onField, parse, placeOf}
-use Rattle.model.specs.Format.{parseNext}
+use Rattle.model.specs.Format.{isAt, fixedAt, field, fieldBy, fieldAt, Parsed, parsed, onFixed, onField, parse}
+use Rattle.model.specs.Format.{placeOf, parseNext}
 use Rattle.model.proofs.Basic.{pick-cases, zero-cases, pick-cong}
-use Rattle.model.proofs.Text.{Beyond}
+use Rattle.model.proofs.Text.{Beyond, beyond-false, capped-inside, number-yielded}
 
 -- ---- which values there are
 -- how many numbers there are among the parts
@@ -96,6 +96,15 @@ text-append (number lo hi end ∷ a) b [] us e = absurd (omega arith)
 text-append (number lo hi end ∷ a) b (v ∷ vs) us e =
     ap (λ (l : List ℕ). digits v ++ (end ∷ l)) (text-append a b vs us (omega arith))
     ∙ sym (append-assoc (digits v) (end ∷ textOf a vs) (textOf b us))
+
+-- 11 wherever the whole run of digits of a number outside its field stands, whatever follows it
+pub field-out : (lo hi end : ℕ) (s : List ℕ) (at v : ℕ) (rest : List ℕ) → hi ≤ 256 → NoDigit rest
+    → drop at s ≡ digits v ++ rest → Beyond lo hi v → fieldAt lo hi end s at ≡ field 11 at 0
+unfolding fieldAt
+field-out lo hi end s at v rest k nd e b =
+    let read : stepAt s at ≡ step (Number (capped v)) at (at + length (digits v)) =
+    number-yielded s at v rest e nd in
+    rw (read, capped-inside lo hi v k, beyond-false lo hi v b)
 
 -- ---- one part that was read
 -- fixed bytes, and what is after them

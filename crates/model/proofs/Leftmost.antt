@@ -1,6 +1,6 @@
 -- The reader's refusal is the leftmost that is drawn, and the leftmost that is drawn is the reader's.
 use mathlib.Core.Path.{_≡_, refl, _∙_, ap, ap₂, sym, subst}
-use mathlib.Core.Bool.{false, true≢false}
+use mathlib.Core.Bool.{false}
 use mathlib.Core.Logic.{_⊎_, inl, inr, ⊎-elim}
 use mathlib.Core.List.{List, [], _∷_, _++_, append-assoc}
 use Prim.Native.Nat.{ℕ, zero, suc, _+_, _≤_, _<_}
@@ -18,8 +18,9 @@ use Rattle.model.proofs.Text.{Beyond, digits-some}
 use Rattle.model.proofs.Format.{OutsideAt, good-head, good-body}
 use Rattle.model.proofs.Agrees.{parse-agrees, read-text}
 use Rattle.model.proofs.Parse.{text-read, RefusedBy, outside-read}
-use Rattle.model.proofs.Sheet.{valuesIn, values-shaped, sheet-values, five, numbers-head, head-values, first}
-use Rattle.model.proofs.Sheet.{measured, second, by-cases, head-in-range, read-exactly}
+use Rattle.model.proofs.Sheet.{lines-refused, room-refused, valuesIn, values-shaped, sheet-values, five}
+use Rattle.model.proofs.Sheet.{numbers-head, head-values, first, measured, second, by-cases, head-in-range}
+use Rattle.model.proofs.Sheet.{read-exactly}
 use Rattle.model.proofs.Sections.{number-in-text, ValueOutside, head-text, line-outside, outside-line}
 use Rattle.model.proofs.Sections.{outside-body, AfterLine2, in-psf, in-gray, in-dots}
 use Rattle.model.proofs.Refused.{blank, blank-shaped, read-begins, read-within, read-draws, ten-stops}
@@ -117,32 +118,19 @@ module _ (b : List ℕ) (p g d : ℕ) where
 
   lines-refuse : first b .refusal ≡ 11 → let r = readSheet b p g d in (r .refusal ≡ 11) × (r .at ≡ first b .at)
   lines-refuse y =
-      by-cases {Q = λ (r : Read). (r .refusal ≡ 11) × (r .at ≡ first b .at)} (record {
-        cut-head = λ x. (y, refl);
-        no-room = λ x f. absurd (omega arith);
-        cut-body = λ x f. absurd (omega arith);
-        too-long = λ x f. absurd (omega arith);
-        whole = λ x f. absurd (omega arith);
-      })
+      let e = lines-refused b p g d (λ x. omega arith) in
+      (ap (λ (r : Read). r .refusal) e ∙ y, ap (λ (r : Read). r .at) e)
 
   -- 12
   short-right : {o : ℕ} → Short b p g d o → let r = readSheet b p g d in
       ((r .refusal ≡ 12) × (r .at ≡ o)) ⊎ ((r .refusal ≡ 11) × (r .at < o))
   short-right {o} z = go (head-read (z .measures) (z .rest) (z .text))
     where
-      Q : Read → Type 0
-      Q r = ((r .refusal ≡ 12) × (r .at ≡ o)) ⊎ ((r .refusal ≡ 11) × (r .at < o))
-
-      go : HeadRead (z .measures) (z .rest) → Q (readSheet b p g d)
+      go : HeadRead (z .measures) (z .rest) → let r = readSheet b p g d in
+          ((r .refusal ≡ 12) × (r .at ≡ o)) ⊎ ((r .refusal ≡ 11) × (r .at < o))
       go (inl (y, e, _, l)) =
-          let short : roomFor (measured b) p g d ≡ false = subst (λ k. roomFor k p g d ≡ false) (sym e) (z .lacks) in
-          by-cases {Q = Q} (record {
-            cut-head = λ x. absurd (x y);
-            no-room = λ _ f. inl (refl, l ∙ sym (z .place));
-            cut-body = λ _ f. absurd (true≢false (sym f ∙ short));
-            too-long = λ _ f. absurd (true≢false (sym f ∙ short));
-            whole = λ _ f. absurd (true≢false (sym f ∙ short));
-          })
+          let w = room-refused b p g d y (subst (λ k. roomFor k p g d ≡ false) (sym e) (z .lacks)) in
+          inl (ap (λ (r : Read). r .refusal) w, ap (λ (r : Read). r .at) w ∙ l ∙ sym (z .place))
       go (inr (y, l)) = let (e, q) = lines-refuse y in inr (e, omega (arith, z .place))
 
   -- 11

@@ -14,8 +14,8 @@ use Rattle.model.specs.declared.Item.the-variants.{Number}
 use Rattle.model.specs.Basic.{pick}
 use Rattle.model.specs.Text.{isDigit, digits, capped, NoDigit, step, stepAt}
 use Rattle.model.specs.Format.{Part, fixed, number, textOf, isAt, place, fixedAt, field, fieldBy, fieldAt, parse}
-use Rattle.model.proofs.Text.{and-true, Beyond, beyond-false, capped-inside, number-yielded}
-use Rattle.model.proofs.Format.{numbers, Inside, inside-length, OutsideAt, Good}
+use Rattle.model.proofs.Text.{and-true, capped-inside, number-yielded}
+use Rattle.model.proofs.Format.{field-out, numbers, Inside, inside-length, OutsideAt, Good}
 use Rattle.model.proofs.Agrees.{after}
 
 -- ---- one part
@@ -59,15 +59,6 @@ field-back lo hi end s at v rest k d e = go (leb lo v && leb v hi) refl
         let c : capped v ≡ v = rw (lt-ltb v 257 (omega arith)) in
         rw (read, capped-inside lo hi v k, t, stands, c)
     go false t = rw (read, capped-inside lo hi v k, t)
-
--- a whole run of digits that is outside its field
-field-out : (lo hi end : ℕ) (s : List ℕ) (at v : ℕ) (rest : List ℕ) → hi ≤ 256 → NoDigit rest
-    → drop at s ≡ digits v ++ rest → Beyond lo hi v → fieldAt lo hi end s at ≡ field 11 at 0
-unfolding fieldAt
-field-out lo hi end s at v rest k nd e b =
-    let read : stepAt s at ≡ step (Number (capped v)) at (at + length (digits v)) =
-    number-yielded s at v rest e nd in
-    rw (read, capped-inside lo hi v k, beyond-false lo hi v b)
 
 -- ---- parts
 -- the text of values is read as these values; or with refusal 11 within it, where one is outside its field

@@ -8,8 +8,7 @@ use native.Mathlib.Nat.{le-refl, mul-le-mul}
 use native.Mathlib.Omega.{arith}
 use borrow.Author.Tests.{le-leb, leb-true, leb-false, ltb-false, eq-eqb, ne-eqb}
 use lib.Dec.{leb, eqb}
-use lib.ListN.{length, getD, take, drop, length-append, length-drop, take-append-drop}
-use lib.ListN.{drop-of-length-le}
+use lib.ListN.{length, getD, take, drop, length-append, length-drop, take-append-drop, drop-of-length-le}
 use lib.Seq.{sets, length-take-le, take-at, drop-at, sets-eq}
 use Rattle.model.specs.declared.Measures.{Measures}
 use Rattle.model.specs.declared.Place.{Place}
@@ -18,15 +17,15 @@ use Rattle.model.specs.Refusal.{Refusal, badSize, badRadius, badReach, b
 use Rattle.model.specs.Sheet.{Sheet, sideOf, entriesOf, cellsOf, dotsIn, row, rows, names, psfName, grayName}
 use Rattle.model.specs.Sheet.{dotsName, valuesOf, dotsText, sheetText, Shaped, InRange, Valid, roomFor}
 use Rattle.model.specs.Format.{Part, fixed, number, grid, block, head, psfBlock, grayBlock, dotsBlock, body}
-use Rattle.model.specs.Format.{textOf, Parsed, parse, measuresOf, headOf, sheetOf}
-use Rattle.model.specs.Format.{Read, refusedAt, bodyEnd, readSheet}
-use Rattle.model.specs.SheetCalls.{result, refused, readCall, WriteOutcome, withGiven, writtenSheet}
-use Rattle.model.specs.SheetCalls.{writeText, unlessRefused, writeCall}
+use Rattle.model.specs.Format.{textOf, Parsed, parse, measuresOf, headOf, sheetOf, Read, refusedAt, bodyEnd}
+use Rattle.model.specs.Format.{readSheet}
+use Rattle.model.specs.SheetCalls.{result, refused, readCall, WriteOutcome, withGiven, writtenSheet, writeText}
+use Rattle.model.specs.SheetCalls.{unlessRefused, writeCall}
 use Rattle.model.proofs.Basic.{pick-cases, zero-cases, at-most-tail}
 use Rattle.model.proofs.Refusal.{none, size-inside, none-above, alike}
 use Rattle.model.proofs.Rows.{text-grid, rows-grid}
-use Rattle.model.proofs.Format.{numbers, Inside, inside-length, good-head, good-body, text-append}
-use Rattle.model.proofs.Format.{values-length, numbers-grid, numbers-append}
+use Rattle.model.proofs.Format.{numbers, Inside, inside-length, good-head, good-body, text-append, values-length}
+use Rattle.model.proofs.Format.{numbers-grid, numbers-append}
 use Rattle.model.proofs.Agrees.{read-text}
 use Rattle.model.proofs.Parse.{ReadWhole, inside-read}
 
@@ -246,6 +245,18 @@ measured b = measuresOf (first b .values)
 
 abbrev pub second : List ℕ → Parsed
 second b = parse (body (measured b)) b (first b .at)
+
+-- what is refused in lines 1 and 2, and what lacks room after them
+module _ (b : List ℕ) (p g d : ℕ) where
+  pub lines-refused : (first b .refusal ≡ 0 → ⊥)
+      → readSheet b p g d ≡ refusedAt (measured b) (first b .refusal) (first b .at)
+  unfolding readSheet headOf
+  lines-refused z = rw (ne-eqb (first b .refusal) 0 z)
+
+  pub room-refused : first b .refusal ≡ 0 → roomFor (measured b) p g d ≡ false
+      → readSheet b p g d ≡ refusedAt (measured b) 12 (first b .at)
+  unfolding readSheet headOf
+  room-refused z f = rw (eq-eqb (first b .refusal) 0 z, f)
 
 -- the answers that the reader can give, by what was read; what holds of each of them holds of the one that it gives
 pub record Cases (b : List ℕ) (p g d : ℕ) (Q : Read → Type 0) : Type 0 where

@@ -10,7 +10,7 @@ use native.Mathlib.Omega.{arith}
 use borrow.Author.Tests.{ltb-true, ltb-false, lt-ltb, le-ltb, le-leb, lt-leb, leb-true, leb-false, eqb-true, eqb-false}
 use borrow.Author.Tests.{ne-eqb}
 use lib.Dec.{leb, ltb, eqb}
-use lib.ListN.{length, drop, length-append}
+use lib.ListN.{length, drop, length-append, drop-of-length-le}
 use Rattle.model.specs.declared.Item.the-variants.{Word, Number, LineEnd, Other}
 use Rattle.model.specs.declared.Run.{Run}
 use Rattle.model.specs.declared.Step.{Step}
@@ -240,6 +240,10 @@ run-end (x ∷ xs) v i = go (isDigit x) refl (run-end xs (grow v x) (i + 1))
 pub number-yielded : (s : List ℕ) (at n : ℕ) (rest : List ℕ) → drop at s ≡ digits n ++ rest → NoDigit rest
     → stepAt s at ≡ step (Number (capped n)) at (at + length (digits n))
 number-yielded s at n rest e nd = rw e (item-back n rest nd at)
+
+-- past the end nothing is
+pub nothing-yielded : (s : List ℕ) (at : ℕ) → length s ≤ at → stepAt s at ≡ step Other at at
+nothing-yielded s at h = rw (drop-of-length-le s h)
 
 -- in a longer run that begins 0 the second digit cannot be there
 pub leading-zero : (s : List ℕ) (at x : ℕ) (rest : List ℕ) → drop at s ≡ 48 ∷ x ∷ rest → isDigit x ≡ true
