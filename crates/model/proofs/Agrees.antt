@@ -16,11 +16,12 @@ use Rattle.model.specs.declared.Field.{Field}
 use Rattle.model.specs.declared.Item.{Item}
 use Rattle.model.specs.declared.Item.the-variants.{Word, Number, LineEnd, Other}
 use Rattle.model.specs.Basic.{pick}
-use Rattle.model.specs.Text.{isLetter, isDigit, digits, step, itemFrom, stepAt}
+use Rattle.model.specs.Text.{isLetter, isDigit, digits, capped, NoDigit, step, itemFrom, stepAt}
 use Rattle.model.specs.Format.{Part, fixed, number, textOf, isAt, fixedAt, field, fieldBy, fieldAt, Parsed, parse}
 use Rattle.model.proofs.Basic.{pick-cases, zero-cases}
-use Rattle.model.proofs.Text.{digits-low, and-true, item-stands}
-use Rattle.model.proofs.Format.{numbers, Inside, Good}
+use Rattle.model.proofs.Text.{digits-low, and-true, Beyond, beyond, capped-inside, capped-low, number-yielded}
+use Rattle.model.proofs.Text.{yielded-number}
+use Rattle.model.proofs.Format.{numbers, Inside, OutsideAt, Good, fixed-draws}
 
 -- ---- bytes
 -- past a part
@@ -139,76 +140,165 @@ item-agrees {n} s at end z = go (item-place at (drop at s))
     go (inl e) = rw e (agrees-none (λ y. absurd (z y)))
     go (inr (ys, d, e)) = rw (e, digits-low 0 (omega arith)) (agrees-part (48 ∷ []) end ys (λ y. absurd (z y)) d)
 
--- a number, its digits and the byte that ends it: the one that was read, in its field, or some other after a refusal
+-- a number, its digits and the byte that ends it: the one that was read, in its field; with refusal 11 the one that
+-- stands there as a whole run of digits, outside its field; or some other
 abbrev Numbered : (lo hi end : ℕ) → List ℕ → ℕ → Field → Type 0
 Numbered lo hi end s at f =
     (v : ℕ)
     × Agrees s at (f .refusal) (f .at) (digits v ++ (end ∷ []))
     × (f .refusal ≡ 0 → (v ≡ f .value) × (lo ≤ v) × (v ≤ hi))
+    × (f .refusal ≡ 11
+    → (rest : List ℕ) × (drop at s ≡ digits v ++ rest) × NoDigit rest × Beyond lo hi v × (f .at ≡ at))
 
 pub field-agrees : (lo hi end : ℕ) → hi ≤ 256 → (s : List ℕ) (at : ℕ)
     → Numbered lo hi end s at (fieldAt lo hi end s at)
 unfolding fieldAt
 field-agrees lo hi end k s at = go (stepAt s at .item) refl
   where
-    o : ℕ
-    o = stepAt s at .at
-
-    e : ℕ
-    e = stepAt s at .next
-
     Held : Field → Type 0
     Held = Numbered lo hi end s at
 
-    none : (n : ℕ) → (n ≡ 0 → ⊥) → Held (field n o 0)
-    none n z = (0, item-agrees s at (end ∷ []) z, λ y. absurd (z y))
+    none : Held (field 10 (stepAt s at .at) 0)
+    none = (
+      0,
+      item-agrees s at (end ∷ []) (λ y. omega arith),
+      λ y. absurd (omega arith),
+      λ y. absurd (omega arith),
+    )
 
-    number-up : {n : ℕ} (v : ℕ) → stepAt s at .item ≡ Number v → v ≤ hi → (rest : List ℕ) → (n ≡ 0 → rest ≡ [])
-        → Agrees s at n e (digits v ++ rest)
-    number-up v q h rest z =
-        let (r, p, n) = item-stands at (drop at s) v q (omega arith) in
-        rw n (agrees-part (digits v) rest r z p)
+    numbered : (v : ℕ) (rest : List ℕ) → drop at s ≡ digits v ++ rest → NoDigit rest
+        → Held (fieldBy lo hi end s (Number (capped v)) at (at + length (digits v)))
+    numbered v rest p nd =
+        rw (capped-inside lo hi v k) (pick-cases Held (leb lo v && leb v hi) inside outside)
+      where
+        e : ℕ
+        e = at + length (digits v)
 
-    numbered : (v : ℕ) → stepAt s at .item ≡ Number v → lo ≤ v → v ≤ hi
-        → Held (pick (isAt end s e) (field 0 (e + 1) v) (field 10 e 0))
-    numbered v q l h =
-        let d = rw (append-nil (digits v)) at (number-up {n = 0} v q h [] (λ y. refl)) in
-        pick-cases Held (isAt end s e) (λ u. (v, agrees-on d (byte-agrees s e end u), λ y. (refl, l, h)))
-        (λ u. (v, number-up v q h (end ∷ []) (λ y. absurd (omega arith)), λ y. absurd (omega arith)))
+        inside : leb lo v && leb v hi ≡ true → Held (pick (isAt end s e) (field 0 (e + 1) (capped v)) (field 10 e 0))
+        inside t =
+            let (l, u) = and-true (leb lo v) (leb v hi) t in
+            let h = leb-true v hi u in
+            let c = capped-low v (omega arith) in
+            let d : Agrees s at 0 e (digits v ++ []) = agrees-part (digits v) [] rest (λ y. refl) p in
+            pick-cases Held (isAt end s e)
+            (λ f. (
+              v,
+              agrees-on (rw (append-nil (digits v)) at d) (byte-agrees s e end f),
+              λ y. (sym c, leb-true lo v l, h),
+              λ y. absurd (omega arith),
+            ))
+            (λ f. (
+              v,
+              agrees-part (digits v) (end ∷ []) rest (λ y. absurd (omega arith)) p,
+              λ y. absurd (omega arith),
+              λ y. absurd (omega arith),
+            ))
 
-    go : (i : Item) → stepAt s at .item ≡ i → Held (fieldBy lo hi end s i o e)
-    go Word q = none 10 (λ y. omega arith)
-    go LineEnd q = none 10 (λ y. omega arith)
-    go Other q = none 10 (λ y. omega arith)
-    go (Number v) q =
-        pick-cases Held (leb lo v && leb v hi) (λ t.
-        let (l, h) = and-true (leb lo v) (leb v hi) t in
-        numbered v q (leb-true lo v l) (leb-true v hi h)) (λ t. none 11 (λ y. omega arith))
+        outside : leb lo v && leb v hi ≡ false → Held (field 11 at 0)
+        outside t = (
+          v,
+          agrees-none (λ y. absurd (omega arith)),
+          λ y. absurd (omega arith),
+          λ y. (rest, p, nd, beyond lo hi v t, refl),
+        )
 
--- parts, with some values: those that were read, each in its field, and others after a refusal
+    go : (i : Item) → stepAt s at .item ≡ i
+        → Held (fieldBy lo hi end s (stepAt s at .item) (stepAt s at .at) (stepAt s at .next))
+    go Word q = rw q none
+    go LineEnd q = rw q none
+    go Other q = rw q none
+    go (Number w) q =
+        let (v, rest, p, nd, _) = yielded-number s at w q in
+        rw (number-yielded s at v rest p nd) (numbered v rest p nd)
+
+-- a whole run of digits stands at the place o: the number of one of the values, which is outside its field
+pub record Misses (ps : List Part) (s : List ℕ) (at : ℕ) (vs : List ℕ) (o : ℕ) : Type 0 where
+  pub before : List ℕ
+  pub value : ℕ
+  pub rest : List ℕ
+  pub outside : OutsideAt ps vs before value
+  pub stands : drop at s ≡ before ++ (digits value ++ rest)
+  pub run : NoDigit rest
+  pub place : o ≡ at + length before
+
+-- after a part that was read
+module _ {s : List ℕ} {at o o′ : ℕ} {ps : List Part} {vs : List ℕ} where
+  seam : {t : List ℕ} → Agrees s at 0 o t → (m : Misses ps s o vs o′) → let u = digits (m .value) ++ m .rest in
+      (drop at s ≡ t ++ (m .before ++ u)) × (o′ ≡ at + (length t + length (m .before)))
+  seam {t} a m =
+      let e = agrees-all a refl in (
+        a .stands
+            ∙ ap (λ (l : List ℕ). l ++ drop o s) (sym e)
+            ∙ ap (λ (l : List ℕ). t ++ l) (m .stands),
+        omega (arith, a .rises, m .place, ap length e),
+      )
+
+  misses-fixed : {bs : List ℕ} → Agrees s at 0 o bs → Misses ps s o vs o′ → Misses (fixed bs ∷ ps) s at vs o′
+  misses-fixed {bs} a m =
+      let u = digits (m .value) ++ m .rest in
+      record {
+        before = bs ++ m .before;
+        value = m .value;
+        rest = m .rest;
+        outside = (m .before, refl, m .outside);
+        stands = seam a m .0 ∙ sym (append-assoc bs (m .before) u);
+        run = m .run;
+        place = rw (length-append bs (m .before)) (seam a m .1);
+      }
+
+  misses-number : {lo hi end v : ℕ} → Agrees s at 0 o (digits v ++ (end ∷ [])) → Misses ps s o vs o′
+      → Misses (number lo hi end ∷ ps) s at (v ∷ vs) o′
+  misses-number {lo} {hi} {end} {v} a m =
+      let u = digits (m .value) ++ m .rest in
+      let (e, p) = seam a m in
+      let j = append-assoc (digits v) (end ∷ []) (m .before) in
+      let k = length-append (digits v ++ (end ∷ [])) (m .before) in
+      record {
+        before = digits v ++ (end ∷ m .before);
+        value = m .value;
+        rest = m .rest;
+        outside = inr (m .before, refl, m .outside);
+        stands = e ∙ sym (append-assoc (digits v ++ (end ∷ [])) (m .before) u) ∙ ap (λ (l : List ℕ). l ++ u) j;
+        run = m .run;
+        place = p ∙ ap (λ (i : ℕ). at + i) (sym k ∙ ap length j);
+      }
+
+-- parts, with some values: those that were read, each in its field; with refusal 11 the next is the one that is outside
+-- its field; and others after a refusal
 abbrev Completed : List Part → List ℕ → ℕ → Parsed → Type 0
 Completed ps s at r =
     (vs : List ℕ)
     × (length vs ≡ numbers ps)
     × Agrees s at (r .refusal) (r .at) (textOf ps vs)
     × (r .refusal ≡ 0 → (vs ≡ r .values) × Inside ps vs)
+    × (r .refusal ≡ 11 → Misses ps s at vs (r .at))
 
 abbrev zeros : List Part → List ℕ
 zeros ps = replicate (numbers ps) 0
 
 pub parse-agrees : (ps : List Part) → Good ps → (s : List ℕ) (at : ℕ) → Completed ps s at (parse ps s at)
-parse-agrees [] g s at = ([], refl, agrees-none (λ e. refl), λ e. (refl, tt))
+parse-agrees [] g s at = ([], refl, agrees-none (λ e. refl), λ e. (refl, tt), λ y. absurd (omega arith))
 parse-agrees (fixed bs ∷ ps) g s at =
     let p = fixedAt bs s at in
     let a = fixed-agrees bs s at in
-    let (vs, l, r, w) = parse-agrees ps g s (p .at) in
+    let (vs, l, r, w, x) = parse-agrees ps g s (p .at) in
     zero-cases (Completed (fixed bs ∷ ps) s at) (p .refusal)
-    (λ z. (vs, l, agrees-on (rw z at a) r, w))
-    (λ z. (zeros ps, length-replicate (numbers ps) 0, agrees-off (textOf ps (zeros ps)) z a, λ e. absurd (z e)))
+    (λ z. (vs, l, agrees-on (rw z at a) r, w, λ y. misses-fixed (rw z at a) (x y)))
+    (λ z. (
+      zeros ps,
+      length-replicate (numbers ps) 0,
+      agrees-off (textOf ps (zeros ps)) z a,
+      λ e. absurd (z e),
+      λ y. absurd (never (fixed-draws bs s at) y),
+    ))
+  where
+    never : {n : ℕ} → (n ≡ 0) ⊎ (n ≡ 10) → n ≡ 11 → ⊥
+    never (inl e) y = omega arith
+    never (inr e) y = omega arith
 parse-agrees (number lo hi end ∷ ps) g s at =
     let f = fieldAt lo hi end s at in
-    let (v, a, h) = field-agrees lo hi end (g .0) s at in
-    let (vs, l, r, w) = parse-agrees ps (g .2) s (f .at) in
+    let (v, a, h, out) = field-agrees lo hi end (g .0) s at in
+    let (vs, l, r, w, x) = parse-agrees ps (g .2) s (f .at) in
     zero-cases (Completed (number lo hi end ∷ ps) s at) (f .refusal)
     (λ z. (
       v ∷ vs,
@@ -218,12 +308,24 @@ parse-agrees (number lo hi end ∷ ps) g s at =
           let (e, low, high) = h z in
           let (es, i) = w y in
           (ap₂ (λ x l. x ∷ l) e es, (low, high, i)),
+      λ y. misses-number (rw z at a) (x y),
     ))
     (λ z. (
       v ∷ zeros ps,
       ap suc (length-replicate (numbers ps) 0),
       after-end v _ (agrees-off (textOf ps (zeros ps)) z a),
       λ y. absurd (z y),
+      λ y.
+          let (rest, e, nd, b, o) = out y in
+          record {
+            before = [];
+            value = v;
+            rest = rest;
+            outside = inl (refl, refl, b);
+            stands = e;
+            run = nd;
+            place = o ∙ sym (add-zero at);
+          },
     ))
   where
     after-end : {n o : ℕ} (v : ℕ) (t : List ℕ) → Agrees s at n o (digits v ++ (end ∷ []) ++ t)
@@ -232,14 +334,14 @@ parse-agrees (number lo hi end ∷ ps) g s at =
 
 -- the place never goes back
 pub parse-rises : (ps : List Part) → Good ps → (s : List ℕ) (at : ℕ) → at ≤ parse ps s at .at
-parse-rises ps g s at = let (vs, l, a, w) = parse-agrees ps g s at in omega (arith, a .rises)
+parse-rises ps g s at = let (vs, l, a, w, _) = parse-agrees ps g s at in omega (arith, a .rises)
 
 -- what was read is the text of values in their fields
 pub read-text : (ps : List Part) → Good ps → (s : List ℕ) (at : ℕ) → let r = parse ps s at in
     r .refusal ≡ 0 → (drop at s ≡ textOf ps (r .values) ++ drop (r .at) s) × Inside ps (r .values)
 read-text ps g s at z =
     let r = parse ps s at in
-    let (vs, l, a, w) = parse-agrees ps g s at in
+    let (vs, l, a, w, _) = parse-agrees ps g s at in
     let (e, i) = w z in
     let t : textOf ps (r .values) ≡ a .before = sym (ap (textOf ps) e) ∙ agrees-all a z in
     (a .stands ∙ ap (λ (l : List ℕ). l ++ drop (r .at) s) (sym t), subst (Inside ps) e i)

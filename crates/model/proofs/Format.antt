@@ -1,21 +1,25 @@
 -- Laws of a format: which values its parts ask for, and how their text and their reading go on to the parts after them.
 use mathlib.Core.Path.{_≡_, refl, _∙_, ap, sym}
-use mathlib.Core.Bool.{false}
+use mathlib.Core.Bool.{false, _&&_}
+use mathlib.Core.Logic.{_⊎_, inl, inr, ⊎-elim}
 use mathlib.Core.List.{List, [], _∷_, _++_, append-assoc}
 use Prim.Native.Nat.{ℕ, zero, suc, _+_, _%_, _≤_}
 use native.Mathlib.Omega.{arith}
 use borrow.Author.Tests.{eq-eqb, ne-eqb}
-use lib.Dec.{eqb}
-use lib.ListN.{length}
+use lib.Dec.{leb, eqb}
+use lib.ListN.{length, drop}
 use Rattle.model.specs.declared.Field.{Field}
+use Rattle.model.specs.declared.Item.{Item}
+use Rattle.model.specs.declared.Item.the-variants.{Word, Number, LineEnd, Other}
 use Rattle.model.specs.declared.Measures.{Measures}
 use Rattle.model.specs.declared.Place.{Place}
-use Rattle.model.specs.Text.{isDigit, digits}
-use Rattle.model.specs.Sheet.{sideOf, entriesOf, cellsOf}
-use Rattle.model.specs.Format.{Part, fixed, number, endOf, grid, head, psfBlock, grayBlock, dotsBlock, body}
-use Rattle.model.specs.Format.{textOf, fixedAt, fieldAt, Parsed, parsed, onFixed, onField, parse, placeOf}
-use Rattle.model.specs.Format.{parseNext}
+use Rattle.model.specs.Text.{isDigit, digits, capped, NoDigit, step, stepAt}
+use Rattle.model.specs.Sheet.{sideOf, entriesOf, cellsOf, endOf}
+use Rattle.model.specs.Format.{Part, fixed, number, grid, head, psfBlock, grayBlock, dotsBlock, body, textOf}
+use Rattle.model.specs.Format.{isAt, fixedAt, field, fieldBy, fieldAt, Parsed, parsed, onFixed, onField, parse}
+use Rattle.model.specs.Format.{placeOf, parseNext}
 use Rattle.model.proofs.Basic.{pick-cases, zero-cases, pick-cong}
+use Rattle.model.proofs.Text.{Beyond, beyond-false, capped-inside, number-yielded}
 
 -- ---- which values there are
 -- how many numbers there are among the parts
@@ -38,6 +42,15 @@ inside-length [] (v ∷ vs) i = absurd i
 inside-length (fixed bs ∷ ps) vs i = inside-length ps vs i
 inside-length (number lo hi end ∷ ps) [] i = absurd i
 inside-length (number lo hi end ∷ ps) (v ∷ vs) i = ap suc (inside-length ps vs (i .2))
+
+-- one of the values, v, is outside its field, and the text before it
+abbrev pub OutsideAt : List Part → (vs before : List ℕ) (v : ℕ) → Type 0
+OutsideAt [] vs before v = ⊥
+OutsideAt (fixed bs ∷ ps) vs before v = (t : List ℕ) × (before ≡ bs ++ t) × OutsideAt ps vs t v
+OutsideAt (number lo hi end ∷ ps) [] before v = ⊥
+OutsideAt (number lo hi end ∷ ps) (u ∷ us) before v =
+    ((before ≡ []) × (v ≡ u) × Beyond lo hi v)
+    ⊎ ((t : List ℕ) × (before ≡ digits u ++ (end ∷ t)) × OutsideAt ps us t v)
 
 -- every field ends at 256 at the latest, and no number is ended by a digit
 abbrev pub Good : List Part → Type 0
@@ -83,6 +96,15 @@ text-append (number lo hi end ∷ a) b [] us e = absurd (omega arith)
 text-append (number lo hi end ∷ a) b (v ∷ vs) us e =
     ap (λ (l : List ℕ). digits v ++ (end ∷ l)) (text-append a b vs us (omega arith))
     ∙ sym (append-assoc (digits v) (end ∷ textOf a vs) (textOf b us))
+
+-- 11 wherever the whole run of digits of a number outside its field stands, whatever follows it
+pub field-out : (lo hi end : ℕ) (s : List ℕ) (at v : ℕ) (rest : List ℕ) → hi ≤ 256 → NoDigit rest
+    → drop at s ≡ digits v ++ rest → Beyond lo hi v → fieldAt lo hi end s at ≡ field 11 at 0
+unfolding fieldAt
+field-out lo hi end s at v rest k nd e b =
+    let read : stepAt s at ≡ step (Number (capped v)) at (at + length (digits v)) =
+    number-yielded s at v rest e nd in
+    rw (read, capped-inside lo hi v k, beyond-false lo hi v b)
 
 -- ---- one part that was read
 -- fixed bytes, and what is after them
@@ -165,3 +187,42 @@ pub numbers-append : (a b : List Part) → numbers (a ++ b) ≡ numbers a + numb
 numbers-append [] b = omega arith
 numbers-append (fixed bs ∷ a) b = numbers-append a b
 numbers-append (number lo hi end ∷ a) b = omega (arith, numbers-append a b)
+
+-- ---- which refusals there are
+-- 10 and 11
+abbrev pub Drawn : ℕ → Type 0
+Drawn n = (n ≡ 0) ⊎ (n ≡ 10) ⊎ (n ≡ 11)
+
+-- of fixed bytes 10 alone
+pub fixed-draws : (bs s : List ℕ) (at : ℕ) → let n = fixedAt bs s at .refusal in (n ≡ 0) ⊎ (n ≡ 10)
+fixed-draws [] s at = inl refl
+fixed-draws (b ∷ bs) s at =
+    pick-cases (λ (p : Place). (p .refusal ≡ 0) ⊎ (p .refusal ≡ 10)) (isAt b s at) (λ t. fixed-draws bs s (at + 1))
+    (λ t. inr refl)
+
+field-draws : (lo hi end : ℕ) (s : List ℕ) (at : ℕ) → Drawn (fieldAt lo hi end s at .refusal)
+unfolding fieldAt
+field-draws lo hi end s at = go (stepAt s at .item)
+  where
+    Q : Field → Type 0
+    Q f = Drawn (f .refusal)
+
+    go : (i : Item) → Q (fieldBy lo hi end s i (stepAt s at .at) (stepAt s at .next))
+    go Word = inr (inl refl)
+    go LineEnd = inr (inl refl)
+    go Other = inr (inl refl)
+    go (Number v) =
+        pick-cases Q (leb lo v && leb v hi)
+        (λ t. pick-cases Q (isAt end s (stepAt s at .next)) (λ u. inl refl) (λ u. inr (inl refl)))
+        (λ t. inr (inr refl))
+
+pub parse-draws : (ps : List Part) (s : List ℕ) (at : ℕ) → Drawn (parse ps s at .refusal)
+parse-draws [] s at = inl refl
+parse-draws (fixed bs ∷ ps) s at =
+    let p = fixedAt bs s at in
+    zero-cases (λ (r : Parsed). Drawn (r .refusal)) (p .refusal) (λ z. parse-draws ps s (p .at))
+    (λ z. ⊎-elim inl (λ e. inr (inl e)) (fixed-draws bs s at))
+parse-draws (number lo hi end ∷ ps) s at =
+    let f = fieldAt lo hi end s at in
+    zero-cases (λ (r : Parsed). Drawn (r .refusal)) (f .refusal) (λ z. parse-draws ps s (f .at))
+    (λ z. field-draws lo hi end s at)

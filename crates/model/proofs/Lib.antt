@@ -28,7 +28,9 @@ pub mod Agrees
 pub mod Parse
 pub mod Unseen
 pub mod Sheet
+pub mod Sections
 pub mod Refused
+pub mod Leftmost
 pub mod Program
 pub mod Demand3
 pub mod Printed

@@ -12,8 +12,10 @@ use Rattle.model.proofs.Partners.{offsets-ordered}
 use Rattle.model.proofs.Converge.{converge-rule, converge-only}
 use Rattle.model.proofs.Demand3.{demand-3, left-is-accepted}
 use Rattle.model.proofs.State.{fits-accepted, accepted-fits}
+use Rattle.model.proofs.Text.{digits-low, digits-more, number-low, number-high, yielded-number, leading-zero}
 use Rattle.model.proofs.Sheet.{read-exactly, read-back, same-text, written-whole, written-back}
-use Rattle.model.proofs.Refused.{read-draws, twelve-lacks, read-begins, ten-stops}
+use Rattle.model.proofs.Refused.{read-within}
+use Rattle.model.proofs.Leftmost.{refused-is-leftmost, leftmost-is-refused, read-draws-nothing}
 use Rattle.model.proofs.Printed.{program-prints}
 use Rattle.model.proofs.Interface.{start-over, call-over, stored-read, run-over}
 use Rattle.model.proofs.Examples.{examples, one-sided}
@@ -57,13 +59,21 @@ promises =
         fitting-state-is-accepted = fits-accepted t dots table s;
         accepted-state-fits = accepted-fits t dots table s;
       };
+      number-promises = record {
+        one-digit = digits-low;
+        higher-digits-first = digits-more;
+        number-is-yielded = number-low;
+        above-256-is-257 = number-high;
+        yielded-is-a-number = yielded-number;
+        no-digit-after-0 = leading-zero;
+      };
       reading-promises = λ b p g d. record {
         read-sheet-is-text = read-exactly b p g d;
         text-is-read = λ s (e, v, f). read-back b p g d s e v f;
-        reader-draws = read-draws b p g d;
-        refusal-12-lacks-room = twelve-lacks b p g d;
-        what-was-read-begins-a-sheet = read-begins b p g d;
-        refusal-10-stops = ten-stops b p g d;
+        refused-is-leftmost = refused-is-leftmost b p g d;
+        leftmost-is-refused = leftmost-is-refused b p g d;
+        read-sheet-draws-nothing = read-draws-nothing b p g d;
+        offset-is-within = read-within b p g d;
       };
       one-text-one-sheet = same-text;
       writing-promises = λ m psf gray dots out k done psf-bytes gray-bytes. record {

@@ -13,8 +13,8 @@ use Rattle.model.specs.declared.Measures.{Measures}
 use Rattle.model.specs.Basic.{AtMost}
 use Rattle.model.specs.Text.{digits}
 use Rattle.model.specs.Sheet.{Sheet, sideOf, entriesOf, cellsOf, row, rows, names, psfName, grayName, dotsName}
-use Rattle.model.specs.Sheet.{valuesOf, dotsText, sheetText, Shaped, InRange, Valid}
-use Rattle.model.specs.Format.{gridLength, fits, Read, readSheet}
+use Rattle.model.specs.Sheet.{valuesOf, dotsText, sheetText, Shaped, InRange, Valid, gridLength, roomFor}
+use Rattle.model.specs.Format.{Read, readSheet}
 use Rattle.model.specs.SheetCalls.{result, refused, ReadOutcome, outcomeOf, readCall}
 use Rattle.model.specs.Program.{refusedText, processedText, handedDots, readText, output}
 use Rattle.model.proofs.Basic.{at-most-tail}
@@ -134,7 +134,7 @@ cells-long : length emptyCells ≡ 4096
 cells-long = length-replicate {A = ℕ} 4096 0
 
 -- what a sheet that was read hands on, from the front of the buffers
-module _ (s : Sheet) (v : Valid s) (room : fits (s .measures) 49 4096 4096 ≡ true) where
+module _ (s : Sheet) (v : Valid s) (room : roomFor (s .measures) 49 4096 4096 ≡ true) where
   abbrev sizes : Measures
   sizes = s .measures
 

@@ -1,28 +1,20 @@
 -- The reader's refusals: which there are, and 12 where room lacks; what stands before its place begins a sheet; and
 -- refusal 10 without the reader: with its place none begins.
 use mathlib.Core.Path.{_≡_, refl, _∙_, ap, ap₂, sym, subst}
-use mathlib.Core.Bool.{false, _&&_}
+use mathlib.Core.Bool.{false}
 use mathlib.Core.Logic.{_⊎_, inl, inr, ⊎-elim}
-use mathlib.Core.List.{List, [], _∷_, _++_, append-assoc, append-nil}
+use mathlib.Core.List.{List, [], _++_, append-assoc, append-nil}
 use Prim.Native.Nat.{ℕ, _+_, _≤_, _<_}
 use native.Mathlib.Decide.{decLt}
 use native.Mathlib.Omega.{arith}
 use borrow.Author.Tests.{lt-leb, eq-eqb, ne-eqb}
-use lib.Dec.{leb}
 use lib.ListN.{length, take, drop, replicate, length-append, length-replicate, take-append-drop}
 use lib.Seq.{take-at, length-take-le}
-use Rattle.model.specs.declared.Field.{Field}
-use Rattle.model.specs.declared.Item.{Item}
-use Rattle.model.specs.declared.Item.the-variants.{Word, Number, LineEnd, Other}
 use Rattle.model.specs.declared.Measures.{Measures}
-use Rattle.model.specs.declared.Place.{Place}
-use Rattle.model.specs.Text.{stepAt}
-use Rattle.model.specs.Sheet.{Sheet, entriesOf, cellsOf, dotsIn, valuesOf, sheetText, Shaped, InRange}
-use Rattle.model.specs.Sheet.{Begins, Stops}
-use Rattle.model.specs.Format.{Part, fixed, number, head, body, textOf, isAt, fixedAt, fieldBy, fieldAt}
-use Rattle.model.specs.Format.{Parsed, parse, measuresOf, headOf, fits, Read, sheetOf, bodyEnd, readSheet}
-use Rattle.model.proofs.Basic.{pick-cases, zero-cases}
-use Rattle.model.proofs.Format.{good-head, good-body}
+use Rattle.model.specs.Sheet.{Sheet, entriesOf, cellsOf, dotsIn, valuesOf, sheetText, Shaped, InRange, Begins}
+use Rattle.model.specs.Sheet.{Stops, roomFor}
+use Rattle.model.specs.Format.{head, body, textOf, parse, measuresOf, headOf, Read, sheetOf, bodyEnd, readSheet}
+use Rattle.model.proofs.Format.{good-head, good-body, Drawn, parse-draws}
 use Rattle.model.proofs.Agrees.{Agrees, agrees-on, parse-agrees, parse-rises}
 use Rattle.model.proofs.Parse.{ReadAs, text-read}
 use Rattle.model.proofs.Sheet.{bodyText, text-head, valuesIn, text-body, text-parts, values-shaped}
@@ -31,42 +23,6 @@ use Rattle.model.proofs.Sheet.{by-cases, head-values, head-in-range, no
 use Rattle.model.proofs.Unseen.{parse-local}
 
 -- ---- which refusals there are
--- of parts: 10 and 11
-abbrev Drawn : ℕ → Type 0
-Drawn n = (n ≡ 0) ⊎ (n ≡ 10) ⊎ (n ≡ 11)
-
-fixed-draws : (bs s : List ℕ) (at : ℕ) → Drawn (fixedAt bs s at .refusal)
-fixed-draws [] s at = inl refl
-fixed-draws (b ∷ bs) s at =
-    pick-cases (λ (p : Place). Drawn (p .refusal)) (isAt b s at) (λ t. fixed-draws bs s (at + 1)) (λ t. inr (inl refl))
-
-field-draws : (lo hi end : ℕ) (s : List ℕ) (at : ℕ) → Drawn (fieldAt lo hi end s at .refusal)
-unfolding fieldAt
-field-draws lo hi end s at = go (stepAt s at .item)
-  where
-    Q : Field → Type 0
-    Q f = Drawn (f .refusal)
-
-    go : (i : Item) → Q (fieldBy lo hi end s i (stepAt s at .at) (stepAt s at .next))
-    go Word = inr (inl refl)
-    go LineEnd = inr (inl refl)
-    go Other = inr (inl refl)
-    go (Number v) =
-        pick-cases Q (leb lo v && leb v hi)
-        (λ t. pick-cases Q (isAt end s (stepAt s at .next)) (λ u. inl refl) (λ u. inr (inl refl)))
-        (λ t. inr (inr refl))
-
-parse-draws : (ps : List Part) (s : List ℕ) (at : ℕ) → Drawn (parse ps s at .refusal)
-parse-draws [] s at = inl refl
-parse-draws (fixed bs ∷ ps) s at =
-    let p = fixedAt bs s at in
-    zero-cases (λ (r : Parsed). Drawn (r .refusal)) (p .refusal) (λ z. parse-draws ps s (p .at))
-    (λ z. fixed-draws bs s at)
-parse-draws (number lo hi end ∷ ps) s at =
-    let f = fieldAt lo hi end s at in
-    zero-cases (λ (r : Parsed). Drawn (r .refusal)) (f .refusal) (λ z. parse-draws ps s (f .at))
-    (λ z. field-draws lo hi end s at)
-
 -- of the reader: these and 12, which stands at the end of line 2 where the buffers are too short
 module _ (b : List ℕ) (p g d : ℕ) where
   abbrev Answered : ℕ → Type 0
@@ -90,7 +46,7 @@ module _ (b : List ℕ) (p g d : ℕ) where
   pub twelve-lacks : readSheet b p g d .refusal ≡ 12
       → (headOf b .refusal ≡ 0)
       × (readSheet b p g d .at ≡ headOf b .at)
-      × (fits (headOf b .measures) p g d ≡ false)
+      × (roomFor (headOf b .measures) p g d ≡ false)
   unfolding headOf
   twelve-lacks =
       by-cases {Q = Q} (record {
@@ -104,7 +60,7 @@ module _ (b : List ℕ) (p g d : ℕ) where
       Q : Read → Type 0
       Q r =
           r .refusal ≡ 12
-          → (first b .refusal ≡ 0) × (r .at ≡ first b .at) × (fits (measured b) p g d ≡ false)
+          → (first b .refusal ≡ 0) × (r .at ≡ first b .at) × (roomFor (measured b) p g d ≡ false)
 
       other : {A : Type 0} {n : ℕ} → Drawn n → n ≡ 12 → A
       other (inl e) y = absurd (omega arith)
@@ -112,7 +68,7 @@ module _ (b : List ℕ) (p g d : ℕ) where
       other (inr (inr e)) y = absurd (omega arith)
 
 -- ---- what stands before the place of the reader begins a sheet
-abbrev Begun : List ℕ → ℕ → Type 0
+abbrev pub Begun : List ℕ → ℕ → Type 0
 Begun b o = (o ≤ length b) × Begins (take o b)
 
 agrees-begins : {b : List ℕ} {n o : ℕ} {t : List ℕ} (s : Sheet) → Shaped s → (more : List ℕ)
@@ -136,7 +92,7 @@ agrees-begins {b} {n} {o} s h more e r =
     )
 
 -- in lines 1 and 2: a sheet with such measures
-blank : Measures → Sheet
+unfoldable pub blank : Measures → Sheet
 blank m = record {
   measures = m;
   psf = replicate (entriesOf m) 0;
@@ -144,7 +100,7 @@ blank m = record {
   dots = replicate (dotsIn m) 0;
 }
 
-blank-shaped : (m : Measures) → Shaped (blank m)
+pub blank-shaped : (m : Measures) → Shaped (blank m)
 unfolding blank
 blank-shaped m = record {
   psf-length = length-replicate (entriesOf m) 0;
@@ -155,7 +111,7 @@ blank-shaped m = record {
 head-begins : (b : List ℕ) → Begun b (parse head b 0 .at)
 unfolding blank
 head-begins b =
-    let (vs, l, r, w) = parse-agrees head good-head b 0 in
+    let (vs, l, r, w, _) = parse-agrees head good-head b 0 in
     let s = blank (measuresOf vs) in
     agrees-begins s (blank-shaped (measuresOf vs)) (bodyText s)
     (text-head s ∙ ap (λ (k : List ℕ). textOf head k ++ bodyText s) (five vs (l ∙ numbers-head))) r
@@ -165,8 +121,8 @@ body-begins : (b : List ℕ) → first b .refusal ≡ 0 → Begun b (second b .a
 unfolding headOf
 body-begins b z =
     let m = measured b in
-    let (vs, l, r, w) = parse-agrees head good-head b 0 in
-    let (us, k, q, _) = parse-agrees (body m) (good-body m) b (first b .at) in
+    let (vs, l, r, w, _) = parse-agrees head good-head b 0 in
+    let (us, k, q, _, _) = parse-agrees (body m) (good-body m) b (first b .at) in
     let s = sheetOf m us in
     let shaped = values-shaped m us k in
     let t =
@@ -174,7 +130,7 @@ body-begins b z =
     ∙ ap₂ (λ k x. textOf head k ++ textOf (body m) x) (head-values b z ∙ sym (w z .0)) (sheet-values m us) in
     agrees-begins s shaped [] (t ∙ sym (append-nil (textOf head vs ++ textOf (body m) us))) (agrees-on (rw z at r) q)
 
-reader-begins : (b : List ℕ) (p g d : ℕ) → Begun b (readSheet b p g d .at)
+pub reader-begins : (b : List ℕ) (p g d : ℕ) → Begun b (readSheet b p g d .at)
 reader-begins b p g d =
     by-cases {Q = λ (r : Read). Begun b (r .at)} (record {
       cut-head = λ z. head-begins b;
@@ -258,7 +214,7 @@ text-never s shaped p g d =
 
     rows : first b .refusal ≡ 0 → ReadAs head b 0 (valuesOf m) (bodyText s)
         → ReadAs (body (measured b)) b (first b .at) (valuesIn s) []
-    rows z (inl (_, v, e)) =
+    rows z (inl (_, v, e, _)) =
         let n : measured b ≡ m = ap measuresOf v in
         let t =
         e
@@ -266,12 +222,16 @@ text-never s shaped p g d =
         ∙ sym (append-nil (textOf (body m) (valuesIn s))) in
         subst (λ k. ReadAs (body k) b (first b .at) (valuesIn s) []) (sym n)
         (text-read (body m) (good-body m) b (first b .at) (valuesIn s) [] (values-in-length s shaped) t)
-    rows z (inr (x, o)) = absurd (omega arith)
+    rows z (inr (x, _, o)) = absurd (omega arith)
 
 -- ---- the place that the reader answers
 module _ (b : List ℕ) (p g d : ℕ) where
   abbrev o : ℕ
   o = readSheet b p g d .at
+
+  -- it lies within the input
+  pub read-within : readSheet b p g d .at ≤ length b
+  read-within = reader-begins b p g d .0
 
   -- what stands before it begins a sheet
   pub read-begins : Begins (take (readSheet b p g d .at) b)

@@ -8,8 +8,8 @@ use borrow.Author.Tests.{eq-eqb, ne-eqb}
 use lib.ListN.{length, take, drop, length-append, length-drop, take-append-drop}
 use lib.Seq.{length-take-le}
 use Rattle.model.specs.Text.{space, lineEnd, digits}
-use Rattle.model.specs.Sheet.{row, rows}
-use Rattle.model.specs.Format.{endOf, grid, textOf, gridText, gridLength}
+use Rattle.model.specs.Sheet.{row, rows, endOf, gridText, gridLength}
+use Rattle.model.specs.Format.{grid, textOf}
 
 -- the text of the parts of a grid
 pub text-grid : (w hi i : ℕ) (vs : List ℕ) → textOf (grid w hi i (length vs)) vs ≡ gridText w i vs

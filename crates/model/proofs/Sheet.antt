@@ -8,25 +8,24 @@ use native.Mathlib.Nat.{le-refl, mul-le-mul}
 use native.Mathlib.Omega.{arith}
 use borrow.Author.Tests.{le-leb, leb-true, leb-false, ltb-false, eq-eqb, ne-eqb}
 use lib.Dec.{leb, eqb}
-use lib.ListN.{length, getD, take, drop, length-append, length-drop, take-append-drop}
-use lib.ListN.{drop-of-length-le}
+use lib.ListN.{length, getD, take, drop, length-append, length-drop, take-append-drop, drop-of-length-le}
 use lib.Seq.{sets, length-take-le, take-at, drop-at, sets-eq}
 use Rattle.model.specs.declared.Measures.{Measures}
 use Rattle.model.specs.declared.Place.{Place}
 use Rattle.model.specs.Basic.{pick, AtMost}
 use Rattle.model.specs.Refusal.{Refusal, badSize, badRadius, badReach, badKind, badLength, badDot, writeRefusal}
 use Rattle.model.specs.Sheet.{Sheet, sideOf, entriesOf, cellsOf, dotsIn, row, rows, names, psfName, grayName}
-use Rattle.model.specs.Sheet.{dotsName, valuesOf, dotsText, sheetText, Shaped, InRange, Valid}
+use Rattle.model.specs.Sheet.{dotsName, valuesOf, dotsText, sheetText, Shaped, InRange, Valid, roomFor}
 use Rattle.model.specs.Format.{Part, fixed, number, grid, block, head, psfBlock, grayBlock, dotsBlock, body}
-use Rattle.model.specs.Format.{textOf, Parsed, parse, measuresOf, headOf, fits, sheetOf}
-use Rattle.model.specs.Format.{Read, refusedAt, bodyEnd, readSheet}
-use Rattle.model.specs.SheetCalls.{result, refused, readCall, WriteOutcome, withGiven, writtenSheet}
-use Rattle.model.specs.SheetCalls.{writeText, unlessRefused, writeCall}
+use Rattle.model.specs.Format.{textOf, Parsed, parse, measuresOf, headOf, sheetOf, Read, refusedAt, bodyEnd}
+use Rattle.model.specs.Format.{readSheet}
+use Rattle.model.specs.SheetCalls.{result, refused, readCall, WriteOutcome, withGiven, writtenSheet, writeText}
+use Rattle.model.specs.SheetCalls.{unlessRefused, writeCall}
 use Rattle.model.proofs.Basic.{pick-cases, zero-cases, at-most-tail}
 use Rattle.model.proofs.Refusal.{none, size-inside, none-above, alike}
 use Rattle.model.proofs.Rows.{text-grid, rows-grid}
-use Rattle.model.proofs.Format.{numbers, Inside, inside-length, good-head, good-body, text-append}
-use Rattle.model.proofs.Format.{values-length, numbers-grid, numbers-append}
+use Rattle.model.proofs.Format.{numbers, Inside, inside-length, good-head, good-body, text-append, values-length}
+use Rattle.model.proofs.Format.{numbers-grid, numbers-append}
 use Rattle.model.proofs.Agrees.{read-text}
 use Rattle.model.proofs.Parse.{ReadWhole, inside-read}
 
@@ -47,7 +46,7 @@ abbrev pub valuesIn : Sheet → List ℕ
 valuesIn s = s .psf ++ (s .gray ++ s .dots)
 
 module _ (w h hi : ℕ) (vs : List ℕ) (p : 1 ≤ w) (e : length vs ≡ h * w) where
-  grid-text : textOf (grid w hi 0 (h * w)) vs ≡ rows w h vs
+  pub grid-text : textOf (grid w hi 0 (h * w)) vs ≡ rows w h vs
   grid-text = ap (λ n. textOf (grid w hi 0 n) vs) (sym e) ∙ text-grid w hi 0 vs ∙ rows-grid w h vs p e
 
   block-text : (name : List ℕ) (ps : List Part) (us : List ℕ)
@@ -247,21 +246,34 @@ measured b = measuresOf (first b .values)
 abbrev pub second : List ℕ → Parsed
 second b = parse (body (measured b)) b (first b .at)
 
+-- what is refused in lines 1 and 2, and what lacks room after them
+module _ (b : List ℕ) (p g d : ℕ) where
+  pub lines-refused : (first b .refusal ≡ 0 → ⊥)
+      → readSheet b p g d ≡ refusedAt (measured b) (first b .refusal) (first b .at)
+  unfolding readSheet headOf
+  lines-refused z = rw (ne-eqb (first b .refusal) 0 z)
+
+  pub room-refused : first b .refusal ≡ 0 → roomFor (measured b) p g d ≡ false
+      → readSheet b p g d ≡ refusedAt (measured b) 12 (first b .at)
+  unfolding readSheet headOf
+  room-refused z f = rw (eq-eqb (first b .refusal) 0 z, f)
+
 -- the answers that the reader can give, by what was read; what holds of each of them holds of the one that it gives
 pub record Cases (b : List ℕ) (p g d : ℕ) (Q : Read → Type 0) : Type 0 where
   pub cut-head : (first b .refusal ≡ 0 → ⊥) → Q (refusedAt (measured b) (first b .refusal) (first b .at))
-  pub no-room : first b .refusal ≡ 0 → fits (measured b) p g d ≡ false → Q (refusedAt (measured b) 12 (first b .at))
-  pub cut-body : first b .refusal ≡ 0 → fits (measured b) p g d ≡ true → (second b .refusal ≡ 0 → ⊥)
+  pub no-room : first b .refusal ≡ 0 → roomFor (measured b) p g d ≡ false → Q (refusedAt (measured b) 12 (first b .at))
+  pub cut-body : first b .refusal ≡ 0 → roomFor (measured b) p g d ≡ true → (second b .refusal ≡ 0 → ⊥)
       → Q (refusedAt (measured b) (second b .refusal) (second b .at))
-  pub too-long : first b .refusal ≡ 0 → fits (measured b) p g d ≡ true → second b .refusal ≡ 0 → second b .at < length b
-      → Q (refusedAt (measured b) 10 (second b .at))
-  pub whole : first b .refusal ≡ 0 → fits (measured b) p g d ≡ true → second b .refusal ≡ 0 → length b ≤ second b .at
+  pub too-long : first b .refusal ≡ 0 → roomFor (measured b) p g d ≡ true → second b .refusal ≡ 0
+      → second b .at < length b → Q (refusedAt (measured b) 10 (second b .at))
+  pub whole : first b .refusal ≡ 0 → roomFor (measured b) p g d ≡ true → second b .refusal ≡ 0
+      → length b ≤ second b .at
       → Q (record { refusal = 0; at = second b .at; sheet = sheetOf (measured b) (second b .values) })
 
 pub by-cases : {b : List ℕ} {p g d : ℕ} {Q : Read → Type 0} → Cases b p g d Q → Q (readSheet b p g d)
 unfolding readSheet headOf bodyEnd
 by-cases {b} {p} {g} {d} {Q} c =
-    zero-cases Q (first b .refusal) (λ z. pick-cases Q (fits (measured b) p g d) (λ f.
+    zero-cases Q (first b .refusal) (λ z. pick-cases Q (roomFor (measured b) p g d) (λ f.
     zero-cases End (second b .refusal) (λ y. pick-cases End (leb (length b) (second b .at))
     (λ l. rw (eq-eqb (second b .refusal) 0 y) (c .whole z f y (leb-true (length b) (second b .at) l)))
     (λ l. c .too-long z f y (leb-false (length b) (second b .at) l)))
@@ -286,7 +298,7 @@ module _ (b : List ℕ) where
 
 -- what was read is a valid sheet, and its text is what was read
 abbrev Whole : List ℕ → (psf gray dots : ℕ) → Sheet → Type 0
-Whole b p g d s = (b ≡ sheetText s) × Valid s × (fits (s .measures) p g d ≡ true)
+Whole b p g d s = (b ≡ sheetText s) × Valid s × (roomFor (s .measures) p g d ≡ true)
 
 read-whole : (b : List ℕ) (p g d : ℕ) → let r = readSheet b p g d in r .refusal ≡ 0 → Whole b p g d (r .sheet)
 unfolding headOf
@@ -305,7 +317,7 @@ read-whole b p g d =
     vs : List ℕ
     vs = second b .values
 
-    parts : first b .refusal ≡ 0 → fits m p g d ≡ true → second b .refusal ≡ 0 → length b ≤ second b .at
+    parts : first b .refusal ≡ 0 → roomFor m p g d ≡ true → second b .refusal ≡ 0 → length b ≤ second b .at
         → Whole b p g d (sheetOf m vs)
     parts z f y l =
         let (t, _) = read-text head good-head b 0 z in
@@ -324,7 +336,7 @@ read-whole b p g d =
         )
 
 pub read-exactly : (b : List ℕ) (p g d : ℕ) (s : Sheet) → let r = readSheet b p g d in
-    (r .refusal ≡ 0) × (r .sheet ≡ s) → (b ≡ sheetText s) × Valid s × (fits (s .measures) p g d ≡ true)
+    (r .refusal ≡ 0) × (r .sheet ≡ s) → (b ≡ sheetText s) × Valid s × (roomFor (s .measures) p g d ≡ true)
 read-exactly b p g d s (z, e) = subst (Whole b p g d) e (read-whole b p g d z)
 
 -- where nothing is left is no byte
@@ -332,19 +344,19 @@ pub none-left : (b : List ℕ) (at : ℕ) → drop at b ≡ [] → at < length b
 none-left b at e l = omega (arith, ap length e, length-drop at b)
 
 -- the text of a valid sheet is read as this sheet
-pub read-back : (b : List ℕ) (p g d : ℕ) (s : Sheet) → b ≡ sheetText s → Valid s → fits (s .measures) p g d ≡ true
+pub read-back : (b : List ℕ) (p g d : ℕ) (s : Sheet) → b ≡ sheetText s → Valid s → roomFor (s .measures) p g d ≡ true
     → let r = readSheet b p g d in (r .refusal ≡ 0) × (r .sheet ≡ s)
 read-back b p g d s e v f =
     let at = first b .at in
     let text = textOf (body m) (valuesIn s) in
-    let (z, k, x) = inside-read head good-head b 0 (valuesOf m) text (head-inside m (v .in-range))
+    let (z, k, x, _) = inside-read head good-head b 0 (valuesOf m) text (head-inside m (v .in-range))
     (e ∙ text-parts s (v .shaped) (v .in-range .wide .0)) in
     let n : m ≡ measured b = sym (ap measuresOf k) in
-    let (y, l, w) = subst (λ k. ReadWhole (body k) b at (valuesIn s) []) n
+    let (y, l, w, _) = subst (λ k. ReadWhole (body k) b at (valuesIn s) []) n
     (inside-read (body m) (good-body m) b at (valuesIn s) [] (body-inside s v) (x ∙ sym (append-nil text))) in
     by-cases {Q = λ (r : Read). (r .refusal ≡ 0) × (r .sheet ≡ s)} (record {
       cut-head = λ c. absurd (c z);
-      no-room = λ _ h. absurd (true≢false (sym (subst (λ k. fits k p g d ≡ true) n f) ∙ h));
+      no-room = λ _ h. absurd (true≢false (sym (subst (λ k. roomFor k p g d ≡ true) n f) ∙ h));
       cut-body = λ _ _ c. absurd (c y);
       too-long = λ _ _ _ h. absurd (none-left b (second b .at) w h);
       whole = λ _ _ _ _. (refl, ap₂ sheetOf (sym n) l ∙ values-sheet s (v .shaped));
@@ -364,7 +376,7 @@ module _ (m : Measures) (r : InRange m) where
   dots-most : dotsIn m ≤ 65536
   dots-most = pick-cases (λ n. n ≤ 65536) (eqb (m .start) 2) (λ t. cells-most) (λ t. omega arith)
 
-  any-fits : fits m 49 65536 65536 ≡ true
+  any-fits : roomFor m 49 65536 65536 ≡ true
   any-fits =
       rw (le-leb (entriesOf m) 49 entries-most, le-leb (cellsOf m) 65536 cells-most, le-leb (dotsIn m) 65536 dots-most)
 
@@ -456,7 +468,7 @@ module _ (m : Measures) (psf gray dots out : List ℕ) (k : ℕ) (done : writeCa
       )
 
   -- and it reads back as what was written, with start 2
-  pub written-back : (pb gb db : List ℕ) → fits (withGiven m) (length pb) (length gb) (length db) ≡ true
+  pub written-back : (pb gb db : List ℕ) → roomFor (withGiven m) (length pb) (length gb) (length db) ≡ true
       → let r = readCall (take k (writeCall m psf gray dots out .out)) pb gb db in
       (r .reply ≡ result (withGiven m))
       × (r .psf ≡ sets pb 0 psf)

@@ -1,20 +1,21 @@
 -- Laws of texts: the digits of a number and those of its tenth, the digits read back as the number (257 where it is
 -- above 256, whatever its length), and the number that was read as its digits.
-use mathlib.Core.Path.{_≡_, refl, _∙_, ap, sym, subst}
-use mathlib.Core.Bool.{Bool, true, false, _&&_, and-eq-true-iff}
-use mathlib.Core.List.{List, [], _∷_, _++_, append-assoc, append-nil}
+use mathlib.Core.Path.{_≡_, refl, _∙_, ap, sym}
+use mathlib.Core.Bool.{Bool, true, false, true≢false, _&&_, and-eq-true-iff, and-false}
+use mathlib.Core.Logic.{_⊎_, inl, inr}
+use mathlib.Core.List.{List, [], _∷_, _++_, append-assoc}
 use Prim.Native.Nat.{ℕ, zero, suc, _+_, _-_, _*_, _/_, _%_, _^_, _≤_, _<_}
-use native.Mathlib.Nat.{add-zero, add-assoc, le-refl, pow-suc}
+use native.Mathlib.Nat.{add-assoc, le-refl, pow-suc}
 use native.Mathlib.Omega.{arith}
-use borrow.Author.Tests.{ltb-true, ltb-false, lt-ltb, le-ltb, le-leb, lt-leb, leb-true, eqb-true, eqb-false, ne-eqb}
+use borrow.Author.Tests.{ltb-true, ltb-false, lt-ltb, le-ltb, le-leb, lt-leb, leb-true, leb-false, eqb-true, eqb-false}
+use borrow.Author.Tests.{ne-eqb}
 use lib.Dec.{leb, ltb, eqb}
-use lib.ListN.{length, length-append}
-use Rattle.model.specs.declared.Item.{Item}
+use lib.ListN.{length, drop, length-append, drop-of-length-le}
 use Rattle.model.specs.declared.Item.the-variants.{Word, Number, LineEnd, Other}
 use Rattle.model.specs.declared.Run.{Run}
 use Rattle.model.specs.declared.Step.{Step}
-use Rattle.model.specs.Basic.{pick}
-use Rattle.model.specs.Text.{isLetter, isDigit, digitsIn, digits, grow, runFrom, step, numberStep, itemFrom}
+use Rattle.model.specs.Text.{isLetter, isDigit, digitsIn, digits, capped, grow, NoDigit, runFrom, step}
+use Rattle.model.specs.Text.{numberStep, itemFrom, stepAt}
 
 -- ---- the digits of a number
 same-digits : (f g n : ℕ) → n ≤ f → n ≤ g → digitsIn f n ≡ digitsIn g n
@@ -47,6 +48,14 @@ length-low n h = ap length (digits-low n h)
 pub length-more : (n : ℕ) → 10 ≤ n → length (digits n) ≡ length (digits (n / 10)) + 1
 length-more n h = ap length (digits-more n h) ∙ simp length-append
 
+-- every number has a digit
+pub digits-some : (n : ℕ) → 1 ≤ length (digits n)
+digits-some n = go (ltb n 10) refl
+  where
+    go : (b : Bool) → ltb n 10 ≡ b → 1 ≤ length (digits n)
+    go true e = omega (arith, length-low n (ltb-true n 10 e))
+    go false e = omega (arith, length-more n (ltb-false n 10 e))
+
 -- a number below 10 ^ (k + 1) has at most k + 1 digits
 pub length-most : (k n : ℕ) → n < 10 ^ suc k → length (digits n) ≤ suc k
 length-most zero n h = omega (arith, length-low n (omega arith))
@@ -63,15 +72,44 @@ length-most (suc k) n h = go (ltb n 10) refl (length-most k (n / 10))
 pub and-true : (a b : Bool) → a && b ≡ true → (a ≡ true) × (b ≡ true)
 and-true a b = and-eq-true-iff a b .0
 
+-- a number outside its field
+abbrev pub Beyond : (lo hi v : ℕ) → Type 0
+Beyond lo hi v = (v < lo) ⊎ (hi < v)
+
+pub beyond : (lo hi v : ℕ) → leb lo v && leb v hi ≡ false → Beyond lo hi v
+beyond lo hi v = go (leb lo v) refl (leb v hi) refl
+  where
+    go : (a : Bool) → leb lo v ≡ a → (b : Bool) → leb v hi ≡ b → a && b ≡ false → Beyond lo hi v
+    go false e b f h = inl (leb-false lo v e)
+    go true e false f h = inr (leb-false v hi f)
+    go true e true f h = absurd (true≢false h)
+
+pub beyond-false : (lo hi v : ℕ) → Beyond lo hi v → leb lo v && leb v hi ≡ false
+beyond-false lo hi v (inl h) = rw (lt-leb lo v h)
+beyond-false lo hi v (inr h) = rw (lt-leb v hi h) (and-false (leb lo v))
+
 pub digit-range : (b : ℕ) → isDigit b ≡ true → (48 ≤ b) × (b ≤ 57)
 digit-range b e =
     let p = and-true (leb 48 b) (leb b 57) e in
     (leb-true 48 b (p .0), leb-true b 57 (p .1))
 
 -- ---- from the digits to what is read
--- 257 stands for all above 256
-abbrev pub capped : ℕ → ℕ
-capped n = pick (ltb n 257) n 257
+-- the cap does not change whether a value is in its field
+pub capped-inside : (lo hi v : ℕ) → hi ≤ 256 → leb lo (capped v) && leb (capped v) hi ≡ leb lo v && leb v hi
+capped-inside lo hi v k = go (ltb v 257) refl
+  where
+    go : (b : Bool) → ltb v 257 ≡ b → leb lo (capped v) && leb (capped v) hi ≡ leb lo v && leb v hi
+    go true t = rw t
+    go false t =
+        let h = ltb-false v 257 t in
+        rw (t, lt-leb 257 hi (omega arith), lt-leb v hi (omega arith))
+        (and-false (leb lo 257) ∙ sym (and-false (leb lo v)))
+
+pub capped-low : (n : ℕ) → n ≤ 256 → capped n ≡ n
+capped-low n h = rw (lt-ltb n 257 (omega arith))
+
+pub capped-high : (n : ℕ) → 256 < n → capped n ≡ 257
+capped-high n h = rw (le-ltb n 257 (omega arith))
 
 digit : (r : ℕ) → r < 10 → isDigit (48 + r) ≡ true
 digit r h = rw (le-leb 48 (48 + r) (omega arith), le-leb (48 + r) 57 (omega arith))
@@ -134,11 +172,6 @@ run-on (suc f) n h at rest = go (ltb n 10) refl (λ l. run-on f (n / 10) l at)
           add-assoc,
         )
 
--- what follows a number is no digit
-abbrev NoDigit : List ℕ → Type 0
-NoDigit [] = Unit
-NoDigit (x ∷ xs) = isDigit x ≡ false
-
 run-stops : (rest : List ℕ) → NoDigit rest → (v i : ℕ) → runFrom v i rest ≡ record { value = v; end = i }
 run-stops [] h v i = refl
 run-stops (x ∷ xs) h v i = rw h
@@ -181,8 +214,7 @@ item-first at x xs r lo hi g =
     let z : eqb x 48 ≡ false = ne-eqb x 48 (λ e. omega arith) in
     rw (no-letter x hi, z, g, d)
 
--- the digits of n are read as n, or as 257 where it is above 256
-pub item-back : (n : ℕ) (rest : List ℕ) → NoDigit rest → (at : ℕ)
+item-back : (n : ℕ) (rest : List ℕ) → NoDigit rest → (at : ℕ)
     → itemFrom at (digits n ++ rest) ≡ step (Number (capped n)) at (at + length (digits n))
 item-back zero rest nd at =
     let e : runFrom 0 at (48 ∷ rest) ≡ record { value = 0; end = at + 1 } =
@@ -196,17 +228,6 @@ item-back (suc m) rest nd at =
     rw (ap (λ (l : List ℕ). l ++ rest) q) at g in
     ap (λ (l : List ℕ). itemFrom at (l ++ rest)) q ∙ item-first at x (xs ++ rest) _ lo hi g′
 
--- ---- from what is read to the digits
--- a number above 256 stays so
-stays : (xs : List ℕ) (v i : ℕ) → 257 ≤ v → 257 ≤ runFrom v i xs .value
-stays [] v i h = h
-stays (x ∷ xs) v i h =
-    go (isDigit x) refl (stays xs (grow v x) (i + 1) (rw (le-ltb (v * 10 + (x - 48)) 257 (omega arith)) (le-refl 257)))
-  where
-    go : (b : Bool) → isDigit x ≡ b → 257 ≤ runFrom (grow v x) (i + 1) xs .value → 257 ≤ runFrom v i (x ∷ xs) .value
-    go true t ih = rw t ih
-    go false t ih = rw t h
-
 pub run-end : (xs : List ℕ) (v i : ℕ) → i ≤ runFrom v i xs .end
 run-end [] v i = le-refl i
 run-end (x ∷ xs) v i = go (isDigit x) refl (run-end xs (grow v x) (i + 1))
@@ -215,6 +236,33 @@ run-end (x ∷ xs) v i = go (isDigit x) refl (run-end xs (grow v x) (i + 1))
     go true t ih = rw t (omega arith)
     go false t ih = rw t (le-refl i)
 
+-- a number is yielded for its whole run of digits, whatever its length: it, or 257 where it is above 256
+pub number-yielded : (s : List ℕ) (at n : ℕ) (rest : List ℕ) → drop at s ≡ digits n ++ rest → NoDigit rest
+    → stepAt s at ≡ step (Number (capped n)) at (at + length (digits n))
+number-yielded s at n rest e nd = rw e (item-back n rest nd at)
+
+pub number-low : (s : List ℕ) (at n : ℕ) (rest : List ℕ) → drop at s ≡ digits n ++ rest → NoDigit rest → n ≤ 256
+    → stepAt s at ≡ step (Number n) at (at + length (digits n))
+number-low s at n rest e nd h =
+    number-yielded s at n rest e nd ∙ ap (λ v. step (Number v) at (at + length (digits n))) (capped-low n h)
+
+pub number-high : (s : List ℕ) (at n : ℕ) (rest : List ℕ) → drop at s ≡ digits n ++ rest → NoDigit rest → 256 < n
+    → stepAt s at ≡ step (Number 257) at (at + length (digits n))
+number-high s at n rest e nd h =
+    number-yielded s at n rest e nd ∙ ap (λ v. step (Number v) at (at + length (digits n))) (capped-high n h)
+
+-- past the end nothing is
+pub nothing-yielded : (s : List ℕ) (at : ℕ) → length s ≤ at → stepAt s at ≡ step Other at at
+nothing-yielded s at h = rw (drop-of-length-le s h)
+
+-- in a longer run that begins 0 the second digit cannot be there
+pub leading-zero : (s : List ℕ) (at x : ℕ) (rest : List ℕ) → drop at s ≡ 48 ∷ x ∷ rest → isDigit x ≡ true
+    → stepAt s at ≡ step Other (at + 1) (at + 1)
+leading-zero s at x rest e d =
+    let l = run-end rest (grow (grow 0 48) x) (at + 1 + 1) in
+    rw (e, d, lt-ltb (at + 1) (runFrom (grow (grow 0 48) x) (at + 1 + 1) rest .end) (omega arith))
+
+-- ---- from what is read to the digits
 -- one digit more
 digits-snoc : (v x : ℕ) → 1 ≤ v → 48 ≤ x → x ≤ 57 → digits (v * 10 + (x - 48)) ≡ digits v ++ (x ∷ [])
 digits-snoc v x h l u =
@@ -223,136 +271,77 @@ digits-snoc v x h l u =
     let q : 48 + n % 10 ≡ x = omega arith in
     digits-more n (omega arith) ∙ rw (p, q)
 
--- a run of digits t after the number v
-abbrev Ran : ℕ → ℕ → List ℕ → Run → Type 0
-Ran v i xs r =
-    (t : List ℕ)
-    × (rest : List ℕ)
-    × (xs ≡ t ++ rest)
-    × (r .end ≡ i + length t)
-    × (digits v ++ t ≡ digits (r .value))
+-- a whole run of digits, that of a number of any size
+abbrev Stands : List ℕ → Type 0
+Stands xs = (v : ℕ) × (rest : List ℕ) × (xs ≡ digits v ++ rest) × NoDigit rest
 
-ran : (xs : List ℕ) (v i : ℕ) → 1 ≤ v → runFrom v i xs .value ≤ 256 → Ran v i xs (runFrom v i xs)
-ran [] v i h k = ([], [], refl, sym (add-zero i), append-nil (digits v))
-ran (x ∷ xs) v i h k =
-    go (isDigit x) refl (ltb (v * 10 + (x - 48)) 257) refl (λ a b. ran xs (v * 10 + (x - 48)) (i + 1) a b)
+-- the digits of v and those that follow them
+whole-run : (xs : List ℕ) (v : ℕ) → 1 ≤ v → Stands (digits v ++ xs)
+whole-run [] v h = (v, [], refl, tt)
+whole-run (x ∷ xs) v h = go (isDigit x) refl (whole-run xs (v * 10 + (x - 48)))
   where
-    n : ℕ
-    n = v * 10 + (x - 48)
-
-    go : (b : Bool) → isDigit x ≡ b → (d : Bool) → ltb (v * 10 + (x - 48)) 257 ≡ d
-        → (1 ≤ n → runFrom n (i + 1) xs .value ≤ 256 → Ran n (i + 1) xs (runFrom n (i + 1) xs))
-        → Ran v i (x ∷ xs) (runFrom v i (x ∷ xs))
-    go true t true u ih =
-        let r = digit-range x t in
-        let k′ : runFrom n (i + 1) xs .value ≤ 256 = rw (t, u) at k in
-        let (y, rest, p, e, q) = ih (omega arith) k′ in
-        rw (t, u) (
-          x ∷ y,
-          rest,
-          ap (λ (l : List ℕ). x ∷ l) p,
-          e ∙ omega arith,
-          sym (append-assoc (digits v) (x ∷ []) y) ∙ rw (← digits-snoc v x h (r .0) (r .1)) q,
-        )
-    go true t false u ih =
-        let k′ : runFrom 257 (i + 1) xs .value ≤ 256 = rw (t, u) at k in
-        absurd (omega (arith, stays xs 257 (i + 1) (le-refl 257)))
-    go false t d u ih = rw t ([], x ∷ xs, refl, sym (add-zero i), append-nil (digits v))
-
--- a number that an item holds stands there, and ends where the item ends
-abbrev Stands : ℕ → List ℕ → ℕ → ℕ → Type 0
-Stands at xs v e = (rest : List ℕ) × (xs ≡ digits v ++ rest) × (e ≡ at + length (digits v))
-
-run-first : (at x : ℕ) (xs : List ℕ) → isDigit x ≡ true → runFrom 0 at (x ∷ xs) ≡ runFrom (x - 48) (at + 1) xs
-run-first at x xs t =
-    let r = digit-range x t in
-    let q : 0 * 10 + (x - 48) ≡ x - 48 = omega arith in
-    rw (t, q, lt-ltb (x - 48) 257 (omega arith))
-
-zero-run : (xs : List ℕ) (i : ℕ) → runFrom 0 i xs .end ≤ i → runFrom 0 i xs ≡ record { value = 0; end = i }
-zero-run [] i h = refl
-zero-run (y ∷ ys) i h = go (isDigit y) refl
-  where
-    go : (b : Bool) → isDigit y ≡ b → runFrom 0 i (y ∷ ys) ≡ record { value = 0; end = i }
-    go true t =
-        let h′ : runFrom (grow 0 y) (i + 1) ys .end ≤ i = rw t at h in
-        absurd (omega (arith, run-end ys (grow 0 y) (i + 1)))
-    go false t = rw t
-
-number-is : (a b at e f : ℕ) → step (Number a) at e ≡ step (Number b) at f → (a ≡ b) × (e ≡ f)
-number-is a b at e f q =
-    (let r : Number a ≡ Number b = ap (λ (s : Step). s .item) q in cc, ap (λ (s : Step). s .next) q)
+    go : (b : Bool) → isDigit x ≡ b → (1 ≤ v * 10 + (x - 48) → Stands (digits (v * 10 + (x - 48)) ++ xs))
+        → Stands (digits v ++ (x ∷ xs))
+    go true t ih =
+        let (l, u) = digit-range x t in
+        let (n, rest, e, nd) = ih (omega arith) in
+        (n, rest, sym (append-assoc (digits v) (x ∷ []) xs) ∙ rw (← digits-snoc v x h l u) e, nd)
+    go false t ih = (v, x ∷ xs, refl, t)
 
 other-no-number : {A : Type 0} (v : ℕ) → Other ≡ Number v → A
 other-no-number v e = absurd (let z : _≡_ {A = ℕ} 0 1 = cc in omega arith)
 
-number-stands : (at x : ℕ) (xs : List ℕ) (v e : ℕ) → isDigit x ≡ true
-    → numberStep at x (runFrom 0 at (x ∷ xs)) ≡ step (Number v) at e → v ≤ 256 → Stands at (x ∷ xs) v e
-number-stands at x xs v e t i k = go (eqb x 48) refl (ltb (at + 1) (r .end)) refl
+-- a run that a number was read from
+number-stands : (at x : ℕ) (xs : List ℕ) (v : ℕ) → isDigit x ≡ true
+    → numberStep at x (runFrom 0 at (x ∷ xs)) .item ≡ Number v → Stands (x ∷ xs)
+number-stands at x xs v t i = go (eqb x 48) refl
   where
-    r : Run
-    r = runFrom (x - 48) (at + 1) xs
+    alone : (ys : List ℕ) → runFrom (grow 0 x) (at + 1) ys .end ≤ at + 1 → NoDigit ys
+    alone [] h = tt
+    alone (y ∷ ys) h = next (isDigit y) refl
+      where
+        next : (b : Bool) → isDigit y ≡ b → isDigit y ≡ false
+        next true d = absurd (omega (arith, run-end ys (grow (grow 0 x) y) (at + 1 + 1), rw d at h))
+        next false d = d
 
-    i′ : numberStep at x r ≡ step (Number v) at e
-    i′ = rw (run-first at x xs t) at i
+    go : (b : Bool) → eqb x 48 ≡ b → Stands (x ∷ xs)
+    go false c =
+        let (l, u) = digit-range x t in
+        let e : x ∷ [] ≡ digits (x - 48) =
+        ap (λ (a : ℕ). a ∷ []) (omega arith) ∙ sym (digits-low (x - 48) (omega arith)) in
+        let (n, rest, p, nd) = whole-run xs (x - 48) (omega (arith, eqb-false x 48 c)) in
+        (n, rest, ap (λ (a : List ℕ). a ++ xs) e ∙ p, nd)
+    go true c = zero-run (ltb (at + 1) (runFrom (grow 0 x) (at + 1) xs .end)) refl
+      where
+        zero-run : (d : Bool) → ltb (at + 1) (runFrom (grow 0 x) (at + 1) xs .end) ≡ d → Stands (x ∷ xs)
+        zero-run true d = other-no-number v (rw (t, c, d) at i)
+        zero-run false d =
+            let e : x ∷ [] ≡ digits 0 =
+            ap (λ (a : ℕ). a ∷ []) (eqb-true x 48 c) ∙ sym (digits-low 0 (omega arith)) in (
+              0,
+              xs,
+              ap (λ (a : List ℕ). a ++ xs) e,
+              alone xs (ltb-false (at + 1) (runFrom (grow 0 x) (at + 1) xs .end) d),
+            )
 
-    go : (b : Bool) → eqb x 48 ≡ b → (d : Bool) → ltb (at + 1) (r .end) ≡ d → Stands at (x ∷ xs) v e
-    go false c d u =
-        let j : step (Number (r .value)) at (r .end) ≡ step (Number v) at e = rw c at i′ in
-        let (ev, ee) = number-is (r .value) v at (r .end) e j in
-        let l = digit-range x t in
-        let n = eqb-false x 48 c in
-        let (y, rest, p, ey, q) = ran xs (x - 48) (at + 1) (omega (arith, n)) (rw (← ev) at k) in
-        let o : 48 + (x - 48) ≡ x = omega arith in
-        let w : x ∷ y ≡ digits v =
-        ap (λ (a : ℕ). a ∷ y) (sym o) ∙ rw (digits-low (x - 48) (omega arith)) at q ∙ ap digits ev in (
-          rest,
-          ap (λ (a : List ℕ). x ∷ a) p ∙ ap (λ (a : List ℕ). a ++ rest) w,
-          sym ee ∙ ey ∙ let z = ap length w in omega arith,
-        )
-    go true c true u =
-        let j : step Other (at + 1) (at + 1) ≡ step (Number v) at e = rw (c, u) at i′ in
-        other-no-number v (ap (λ (s : Step). s .item) j)
-    go true c false u =
-        let j : step (Number (r .value)) at (r .end) ≡ step (Number v) at e = rw (c, u) at i′ in
-        let (ev, ee) = number-is (r .value) v at (r .end) e j in
-        let x48 = eqb-true x 48 c in
-        let f = ltb-false (at + 1) (r .end) u in
-        let o : x - 48 ≡ 0 = omega arith in
-        let rz : r ≡ runFrom 0 (at + 1) xs = ap (λ (a : ℕ). runFrom a (at + 1) xs) o in
-        let z : r ≡ record { value = 0; end = at + 1 } = rz ∙ zero-run xs (at + 1) (rw rz at f) in
-        let v0 : v ≡ 0 = sym ev ∙ ap (λ (a : Run). a .value) z in
-        let w : x ∷ [] ≡ digits v = ap (λ (a : ℕ). a ∷ []) x48 ∙ sym (ap digits v0 ∙ digits-low 0 (omega arith)) in (
-          xs,
-          ap (λ (a : List ℕ). a ++ xs) w,
-          sym ee ∙ ap (λ (a : Run). a .end) z ∙ ap (λ (a : List ℕ). at + length a) w,
-        )
-
-number-item : (at x : ℕ) (n : Run) (v : ℕ) → numberStep at x n .item ≡ Number v
-    → numberStep at x n ≡ step (Number v) at (numberStep at x n .next)
-number-item at x n v = go (eqb x 48 && ltb (at + 1) (n .end))
+item-stands : (at : ℕ) (xs : List ℕ) (v : ℕ) → itemFrom at xs .item ≡ Number v → Stands xs
+item-stands at [] v h = other-no-number v h
+item-stands at (x ∷ xs) v h = go (isLetter x) refl (isDigit x) refl (eqb x 10) refl
   where
-    go : (b : Bool)
-        → let r : Step = pick b (step Other (at + 1) (at + 1)) (step (Number (n .value)) at (n .end)) in
-        r .item ≡ Number v → r ≡ step (Number v) at (r .next)
-    go true h = other-no-number v h
-    go false h = ap (λ (i : Item). step i at (n .end)) h
-
-pub item-stands : (at : ℕ) (xs : List ℕ) (v : ℕ) → itemFrom at xs .item ≡ Number v → v ≤ 256
-    → Stands at xs v (itemFrom at xs .next)
-item-stands at [] v h k = other-no-number v h
-item-stands at (x ∷ xs) v h k = go (isLetter x) refl (isDigit x) refl (eqb x 10) refl
-  where
-    go : (a : Bool) → isLetter x ≡ a → (b : Bool) → isDigit x ≡ b → (d : Bool) → eqb x 10 ≡ d
-        → Stands at (x ∷ xs) v (itemFrom at (x ∷ xs) .next)
+    go : (a : Bool) → isLetter x ≡ a → (b : Bool) → isDigit x ≡ b → (d : Bool) → eqb x 10 ≡ d → Stands (x ∷ xs)
     go true t b u d w =
         absurd (let j : Word ≡ Number v = rw t at h in let z : _≡_ {A = ℕ} 0 1 = cc in omega arith)
     go false t true u d w =
-        let n = runFrom 0 at (x ∷ xs) in
-        let e : itemFrom at (x ∷ xs) ≡ numberStep at x n = rw (t, u) in
-        let j : numberStep at x n .item ≡ Number v = sym (ap (λ (r : Step). r .item) e) ∙ h in
-        let q = number-stands at x xs v (numberStep at x n .next) u (number-item at x n v j) k in
-        subst (λ (r : Step). Stands at (x ∷ xs) v (r .next)) (sym e) q
+        let e : itemFrom at (x ∷ xs) ≡ numberStep at x (runFrom 0 at (x ∷ xs)) = rw (t, u) in
+        number-stands at x xs v u (sym (ap (λ (r : Step). r .item) e) ∙ h)
     go false t false u true w =
         absurd (let j : LineEnd ≡ Number v = rw (t, u, w) at h in let z : _≡_ {A = ℕ} 0 1 = cc in omega arith)
     go false t false u false w = other-no-number v (rw (t, u, w) at h)
+
+-- where a number is yielded stands the whole run of its digits
+pub yielded-number : (s : List ℕ) (at v : ℕ) → stepAt s at .item ≡ Number v
+    → (n : ℕ) × (rest : List ℕ) × (drop at s ≡ digits n ++ rest) × NoDigit rest × (v ≡ capped n)
+yielded-number s at v h =
+    let (n, rest, e, nd) = item-stands at (drop at s) v h in
+    let q : Number v ≡ Number (capped n) = sym h ∙ ap (λ (st : Step). st .item) (number-yielded s at n rest e nd) in
+    (n, rest, e, nd, cc)

@@ -133,7 +133,7 @@ module _ (q t t′ : List ℕ) where
         → fieldAt lo hi end (q ++ t) at ≡ fieldAt lo hi end (q ++ t′) at
     unfolding fieldAt
     field-local k at h =
-        let (v, r, e) = field-agrees lo hi end k (q ++ t) at in
+        let (v, r, _, _) = field-agrees lo hi end k (q ++ t) at in
         let a : at < length q = omega (arith, r .rises, h .1) in
         let s = drop-append-le at q t (omega arith) in
         let s′ = drop-append-le at q t′ (omega arith) in

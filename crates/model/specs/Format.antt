@@ -2,7 +2,7 @@
 -- first that is refused.
 use mathlib.Core.Bool.{Bool, _&&_}
 use mathlib.Core.List.{List, [], _∷_, _++_}
-use Prim.Native.Nat.{ℕ, zero, suc, _+_, _%_}
+use Prim.Native.Nat.{ℕ, zero, suc, _+_}
 use lib.Dec.{leb, ltb, eqb}
 use lib.ListN.{length, getD, take, drop}
 use Rattle.model.specs.declared.Field.{Field}
@@ -13,17 +13,14 @@ use Rattle.model.specs.declared.Measures.{Measures}
 use Rattle.model.specs.declared.Place.{Place}
 use Rattle.model.specs.Basic.{pick}
 use Rattle.model.specs.Text.{space, lineEnd, digits, stepAt}
-use Rattle.model.specs.Sheet.{Sheet, sideOf, entriesOf, cellsOf, dotsIn, names, psfName, grayName, dotsName}
+use Rattle.model.specs.Sheet.{Sheet, sideOf, entriesOf, cellsOf, roomFor, endOf, names, psfName, grayName}
+use Rattle.model.specs.Sheet.{dotsName}
 
 -- ---- the format
 -- these bytes, or a number from lo to hi with the byte that ends it
 pub data Part : Type 0 where
   fixed : List ℕ → Part
   number : (lo hi end : ℕ) → Part
-
--- what ends value i of rows of w values: a space, and LF at the end of a row
-abbrev pub endOf : (w i : ℕ) → ℕ
-endOf w i = pick (eqb ((i + 1) % w) 0) lineEnd space
 
 -- n values in rows of w, from value i on, each from 0 to hi
 abbrev pub grid : (w hi i n : ℕ) → List Part
@@ -64,15 +61,6 @@ textOf [] vs = []
 textOf (fixed bs ∷ ps) vs = bs ++ textOf ps vs
 textOf (number lo hi end ∷ ps) [] = []
 textOf (number lo hi end ∷ ps) (v ∷ vs) = digits v ++ (end ∷ textOf ps vs)
-
--- the text of values from value i on, in rows of w, and how long it is
-abbrev pub gridText : (w i : ℕ) → List ℕ → List ℕ
-gridText w i [] = []
-gridText w i (v ∷ vs) = digits v ++ (endOf w i ∷ gridText w (i + 1) vs)
-
-abbrev pub gridLength : List ℕ → ℕ
-gridLength [] = 0
-gridLength (v ∷ vs) = length (digits v) + 1 + gridLength vs
 
 -- ---- reading one part
 -- byte b stands at a place
@@ -156,10 +144,6 @@ headOf s =
     let p = parse head s 0 in
     record { refusal = p .refusal; at = p .at; measures = measuresOf (p .values) }
 
--- the buffers (01: lent slices) are long enough, the one for the dots with start 2 only
-abbrev pub fits : Measures → (psf gray dots : ℕ) → Bool
-fits m psf gray dots = leb (entriesOf m) psf && (leb (cellsOf m) gray && leb (dotsIn m) dots)
-
 -- a sheet that was read; or a refusal with its byte offset, and then nothing is held
 pub record Read : Type 0 where
   pub refusal : ℕ
@@ -193,5 +177,5 @@ readSheet s psf gray dots =
     let h = headOf s in
     let m = h .measures in
     pick (eqb (h .refusal) 0)
-    (pick (fits m psf gray dots) (readBody m s (h .at)) (refusedAt m 12 (h .at)))
+    (pick (roomFor m psf gray dots) (readBody m s (h .at)) (refusedAt m 12 (h .at)))
     (refusedAt m (h .refusal) (h .at))

@@ -14,6 +14,7 @@ pub mod Calls
 pub mod Lists
 pub mod Text
 pub mod Sheet
+pub mod SheetRefusal
 pub mod Format
 pub mod SheetCalls
 pub mod Program

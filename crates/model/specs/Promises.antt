@@ -5,16 +5,17 @@ use mathlib.Core.Path.{_≡_}
 use mathlib.Core.Bool.{true, false}
 use mathlib.Core.Logic.{_⊎_}
 use mathlib.Core.List.{List, [], _∷_, _++_, filter}
-use Prim.Native.Nat.{ℕ, _+_, _*_, _-_, _≤_, _<_}
+use Prim.Native.Nat.{ℕ, _+_, _*_, _-_, _/_, _%_, _≤_, _<_}
 use native.Mathlib.Decide.{ℕ-discrete}
 use lib.IntN.{ℤ, pos, negℤ, natAbs, _+ℤ_, _-ℤ_, _*ℤ_}
 use lib.Signed.{_≤ℤ_, _<ℤ_}
-use lib.ListN.{length, getD, take}
+use lib.ListN.{length, getD, take, drop}
 use lib.Seq.{sets}
 use Rattle.algebra.specs.Sum.{sumFrom}
 use Rattle.model.specs.declared.Measures.{Measures}
 use Rattle.model.specs.declared.Stats.{Stats}
 use Rattle.model.specs.declared.ConvergeResult.{ConvergeResult}
+use Rattle.model.specs.declared.Item.the-variants.{Number, Other}
 use Rattle.model.specs.Basic.{AtMost, All}
 use Rattle.model.specs.Psf.{total, autocorrelation, peak}
 use Rattle.model.specs.Error.{Target, targetOf, targetFor, cellAt, cells, kernel, Halftone}
@@ -30,8 +31,10 @@ use Rattle.model.specs.Screen.{startDots}
 use Rattle.model.specs.Calls.{Reply, result, Outcome, Buffers, startCall, toggleCall, swapCall}
 use Rattle.model.specs.Lists.{Call, convergence, Result, tried, rested, Held, latest, handOn, call, run}
 use Rattle.model.specs.Lists.{begin, acceptedBy, referenceCall, referenceRun, Expected, Rest}
-use Rattle.model.specs.Sheet.{Sheet, sheetText, Valid, Begins, Stops}
-use Rattle.model.specs.Format.{headOf, fits as roomFor, readSheet}
+use Rattle.model.specs.Text.{isDigit, digits, capped, NoDigit, step, stepAt}
+use Rattle.model.specs.Sheet.{Sheet, roomFor, sheetText, Valid}
+use Rattle.model.specs.SheetRefusal.{Draws, Leftmost}
+use Rattle.model.specs.Format.{readSheet}
 use Rattle.model.specs.SheetCalls.{result as written, withGiven, writtenSheet, readCall, writeCall}
 use Rattle.model.specs.Program.{refusedText, statsText, handedDots, output}
 use Rattle.model.specs.Interface.{numbers, statsIn, startOver, Slices, slicesOf, heldIn, callOver, runOver}
@@ -238,7 +241,26 @@ module _ (t : Target) (dots : List ℕ) (table : List ℤ) (s : Stats) where
         → firstOf (badTable t dots table ∷ badStats t dots s ∷ []) ≡ 0
         → StateFits t dots table s
 
--- ---- Sheet: of these bytes, and buffers of these lengths for psf, gray and dots
+-- ---- Sheet
+-- its numbers, at a place of a text
+pub record NumberPromises : Type 0 where
+  -- a number is written by its higher digits first, by the same rule, then its last digit
+  pub one-digit : (n : ℕ) → n < 10 → digits n ≡ (48 + n) ∷ []
+  pub higher-digits-first : (n : ℕ) → 10 ≤ n → digits n ≡ digits (n / 10) ++ ((48 + n % 10) ∷ [])
+  -- it is yielded for its whole run of digits
+  pub number-is-yielded : (s : List ℕ) (at n : ℕ) (rest : List ℕ) → drop at s ≡ digits n ++ rest → NoDigit rest
+      → n ≤ 256 → stepAt s at ≡ step (Number n) at (at + length (digits n))
+  -- above 256 as 257
+  pub above-256-is-257 : (s : List ℕ) (at n : ℕ) (rest : List ℕ) → drop at s ≡ digits n ++ rest → NoDigit rest
+      → 256 < n → stepAt s at ≡ step (Number 257) at (at + length (digits n))
+  -- and nothing else is yielded as a number
+  pub yielded-is-a-number : (s : List ℕ) (at v : ℕ) → stepAt s at .item ≡ Number v
+      → (n : ℕ) × (rest : List ℕ) × (drop at s ≡ digits n ++ rest) × NoDigit rest × (v ≡ capped n)
+  -- in a longer run that begins 0 the second digit cannot be there
+  pub no-digit-after-0 : (s : List ℕ) (at x : ℕ) (rest : List ℕ) → drop at s ≡ 48 ∷ x ∷ rest → isDigit x ≡ true
+      → stepAt s at ≡ step Other (at + 1) (at + 1)
+
+-- reading these bytes, with buffers of these lengths for psf, gray and dots
 module _ (b : List ℕ) (p g d : ℕ) where
   pub record ReadingPromises : Type 0 where
     -- a sheet is read exactly when the bytes are its text, each number is in its field, and it fits the buffers
@@ -246,17 +268,17 @@ module _ (b : List ℕ) (p g d : ℕ) where
         → (b ≡ sheetText s) × Valid s × (roomFor (s .measures) p g d ≡ true)
     pub text-is-read : (s : Sheet) → (b ≡ sheetText s) × Valid s × (roomFor (s .measures) p g d ≡ true)
         → (readSheet b p g d .refusal ≡ 0) × (readSheet b p g d .sheet ≡ s)
-    -- the reader's refusal is 0, 10, 11 or 12 and nothing else
-    pub reader-draws : let n = readSheet b p g d .refusal in (n ≡ 0) ⊎ (n ≡ 10) ⊎ (n ≡ 11) ⊎ (n ≡ 12)
-    -- 12: lines 1 and 2 were read, it stands at their end, and the buffers are too short
-    pub refusal-12-lacks-room : readSheet b p g d .refusal ≡ 12
-        → (headOf b .refusal ≡ 0)
-        × (readSheet b p g d .at ≡ headOf b .at)
-        × (roomFor (headOf b .measures) p g d ≡ false)
-    -- the bytes before the place that the reader answers begin some sheet
-    pub what-was-read-begins-a-sheet : Begins (take (readSheet b p g d .at) b)
-    -- 10: with the byte at its place they begin none, or the end comes too early
-    pub refusal-10-stops : readSheet b p g d .refusal ≡ 10 → Stops b (readSheet b p g d .at)
+    -- it is refused with n at o exactly when n is drawn there by its own words, nothing is drawn to the left, and 12
+    -- comes first at an equal place
+    pub refused-is-leftmost : (n o : ℕ)
+        → (readSheet b p g d .refusal ≡ n) × (n ≡ 0 → ⊥) × (readSheet b p g d .at ≡ o)
+        → Leftmost b p g d n o
+    pub leftmost-is-refused : (n o : ℕ) → Leftmost b p g d n o
+        → (readSheet b p g d .refusal ≡ n) × (n ≡ 0 → ⊥) × (readSheet b p g d .at ≡ o)
+    -- a sheet that is read draws nothing anywhere
+    pub read-sheet-draws-nothing : readSheet b p g d .refusal ≡ 0 → (n o : ℕ) → Draws b p g d n o → ⊥
+    -- every place lies within the input
+    pub offset-is-within : readSheet b p g d .at ≤ length b
 
 -- a sheet that was written into an output
 module _ (m : Measures) (psf gray dots out : List ℕ) (k : ℕ) where
@@ -323,6 +345,7 @@ pub record Promises : Type 0 where
   pub scan-promises : ScanPromises
   pub list-promises : (m : Measures) (psf gray : List ℕ) → ListPromises m psf gray
   pub state-promises : (t : Target) (dots : List ℕ) (table : List ℤ) (s : Stats) → StatePromises t dots table s
+  pub number-promises : NumberPromises
   pub reading-promises : (b : List ℕ) (p g d : ℕ) → ReadingPromises b p g d
   -- no two sheets have the same text
   pub one-text-one-sheet : (s s′ : Sheet) → Valid s → Valid s′ → sheetText s ≡ sheetText s′ → s ≡ s′

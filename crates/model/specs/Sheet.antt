@@ -1,9 +1,10 @@
 -- The sheet of document 01: the one text of a plate, and which plates a sheet can hold.
+use mathlib.Core.Bool.{Bool, _&&_}
 use mathlib.Core.List.{List, [], _∷_, _++_}
 use mathlib.Core.Logic.{_⊎_}
 use mathlib.Core.Path.{_≡_}
-use Prim.Native.Nat.{ℕ, zero, suc, _+_, _*_, _≤_, _<_}
-use lib.Dec.{eqb}
+use Prim.Native.Nat.{ℕ, zero, suc, _+_, _*_, _%_, _≤_, _<_}
+use lib.Dec.{leb, eqb}
 use lib.ListN.{length, take, drop}
 use Rattle.model.specs.declared.Measures.{Measures}
 use Rattle.model.specs.Basic.{pick, AtMost}
@@ -30,6 +31,10 @@ cellsOf m = m .height * m .width
 abbrev pub dotsIn : Measures → ℕ
 dotsIn m = pick (eqb (m .start) 2) (cellsOf m) 0
 
+-- the buffers (01: lent slices) are long enough, the one for the dots with start 2 only
+abbrev pub roomFor : Measures → (psf gray dots : ℕ) → Bool
+roomFor m psf gray dots = leb (entriesOf m) psf && (leb (cellsOf m) gray && leb (dotsIn m) dots)
+
 -- ---- the text
 -- values separated by one space, and the end of the line
 abbrev pub row : List ℕ → List ℕ
@@ -41,6 +46,19 @@ row (v ∷ u ∷ vs) = digits v ++ (space ∷ row (u ∷ vs))
 abbrev pub rows : (w h : ℕ) → List ℕ → List ℕ
 rows w zero vs = []
 rows w (suc h) vs = row (take w vs) ++ rows w h (drop w vs)
+
+-- the same by single values: what ends value i of rows of w values, the text of the values from value i on, and how
+-- long it is
+abbrev pub endOf : (w i : ℕ) → ℕ
+endOf w i = pick (eqb ((i + 1) % w) 0) lineEnd space
+
+abbrev pub gridText : (w i : ℕ) → List ℕ → List ℕ
+gridText w i [] = []
+gridText w i (v ∷ vs) = digits v ++ (endOf w i ∷ gridText w (i + 1) vs)
+
+abbrev pub gridLength : List ℕ → ℕ
+gridLength [] = 0
+gridLength (v ∷ vs) = length (digits v) + 1 + gridLength vs
 
 -- the names of line 1, and those above the rows
 unfoldable pub names : List ℕ

@@ -1,7 +1,8 @@
 -- Texts of document 01: their bytes, the items that a reader yields (a word, a number or a line end), and a number in
 -- decimal.
-use mathlib.Core.Bool.{Bool, _&&_}
+use mathlib.Core.Bool.{Bool, false, _&&_}
 use mathlib.Core.List.{List, [], _∷_, _++_}
+use mathlib.Core.Path.{_≡_}
 use Prim.Native.Char.{code}
 use Prim.Native.Nat.{ℕ, zero, suc, _+_, _-_, _*_, _/_, _%_}
 use Prim.Native.String.{String, [] as empty, _∷_ as _then_}
@@ -45,14 +46,29 @@ unfoldable pub digits : ℕ → List ℕ
 digits n = digitsIn n n
 
 -- ---- reading: what stands at the beginning of a list that begins at a place
--- a number with one digit more; 257 stands for all that is above 256
+-- a number below a limit as it is, and the limit for every other; a number above 256 is yielded as 257
+abbrev pub capTo : (limit n : ℕ) → ℕ
+capTo limit n = pick (ltb n limit) n limit
+
+abbrev pub capped : ℕ → ℕ
+capped = capTo 257
+
+-- a number with one digit more
+abbrev pub growTo : (limit value digit : ℕ) → ℕ
+growTo limit v b = capTo limit (v * 10 + (b - 48))
+
 abbrev pub grow : (value digit : ℕ) → ℕ
-grow v b = pick (ltb (v * 10 + (b - 48)) 257) (v * 10 + (b - 48)) 257
+grow = growTo 257
 
 -- where the run of letters ends
 abbrev pub wordEnd : ℕ → List ℕ → ℕ
 wordEnd i [] = i
 wordEnd i (x ∷ xs) = pick (isLetter x) (wordEnd (i + 1) xs) i
+
+-- no digit stands at the beginning: a run of digits before it ends there
+abbrev pub NoDigit : List ℕ → Type 0
+NoDigit [] = Unit
+NoDigit (x ∷ xs) = isDigit x ≡ false
 
 -- the run of digits, with a value before it
 abbrev pub runFrom : (value at : ℕ) → List ℕ → Run

@@ -10,8 +10,8 @@ use Rattle.model.specs.declared.Head.{Head}
 use Rattle.model.specs.declared.Measures.{Measures}
 use Rattle.model.specs.declared.Place.{Place}
 use Rattle.model.specs.Refusal.{writeRefusal}
-use Rattle.model.specs.Sheet.{sheetText, InRange}
-use Rattle.model.specs.Format.{body, parse, headOf, fits, sheetOf, bodyEnd, readSheet}
+use Rattle.model.specs.Sheet.{sheetText, InRange, roomFor}
+use Rattle.model.specs.Format.{body, parse, headOf, sheetOf, bodyEnd, readSheet}
 use Rattle.model.specs.SheetCalls.{result, refused, ReadOutcome, readCall}
 use Rattle.model.specs.SheetCalls.{WriteOutcome, writtenSheet, unlessRefused, writeText, writeCall}
 use Rattle.model.proofs.Sheet.{head-in-range}
@@ -36,12 +36,12 @@ module _ (bytes psf gray dots : List ℕ) (h : Head) (e : h ≡ headOf bytes) wh
     pub in-range : InRange (h .measures)
     in-range = rw e (head-in-range bytes (rw e at z))
 
-    pub no-room : fits (h .measures) (length psf) (length gray) (length dots) ≡ false
+    pub no-room : roomFor (h .measures) (length psf) (length gray) (length dots) ≡ false
         → readCall bytes psf gray dots ≡ unread 12 (h .at)
     unfolding readCall readSheet
     no-room f = rw (← e, eq-eqb (h .refusal) 0 z, f)
 
-    module _ (f : fits (h .measures) (length psf) (length gray) (length dots) ≡ true) (p : Place)
+    module _ (f : roomFor (h .measures) (length psf) (length gray) (length dots) ≡ true) (p : Place)
         (q : p ≡ bodyEnd (h .measures) bytes (h .at)) where
       pub body-refused : (p .refusal ≡ 0 → ⊥) → readCall bytes psf gray dots ≡ unread (p .refusal) (p .at)
       unfolding readCall readSheet

@@ -22,7 +22,8 @@ use Rattle.model.specs.declared.Run.{Run}
 use Rattle.model.specs.declared.Step.{Step}
 use Rattle.model.specs.Basic.{pick}
 use Rattle.model.specs.Text.{isLetter, isDigit, step, runFrom, stepAt}
-use Rattle.model.specs.Format.{Part, fixed, endOf, grid, block, isAt, place, fixedAt, field, fieldBy, fieldAt}
+use Rattle.model.specs.Sheet.{endOf}
+use Rattle.model.specs.Format.{Part, fixed, grid, block, isAt, place, fixedAt, field, fieldBy, fieldAt}
 use Rattle.model.specs.Format.{Parsed, parsed, onFixed, onField, parse, placeOf, parseNext}
 use Rattle.model.proofs.Basic.{pick-cases}
 use Rattle.model.proofs.Text.{and-true, digit-range}

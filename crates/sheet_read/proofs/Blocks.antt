@@ -12,9 +12,9 @@ use lib.Seq.{take-at, drop-at}
 use Rattle.model.specs.declared.Measures.{Measures}
 use Rattle.model.specs.declared.Place.{Place}
 use Rattle.model.specs.Text.{bytes}
-use Rattle.model.specs.Sheet.{sideOf, entriesOf, cellsOf, dotsIn, psfName, grayName, dotsName}
+use Rattle.model.specs.Sheet.{sideOf, entriesOf, cellsOf, dotsIn, psfName, grayName, dotsName, roomFor}
 use Rattle.model.specs.Format.{Part, block, psfBlock, grayBlock, dotsBlock, body, place, Parsed, parse, placeOf}
-use Rattle.model.specs.Format.{parseNext, ended, fits, sheetOf, bodyEnd}
+use Rattle.model.specs.Format.{parseNext, ended, sheetOf, bodyEnd}
 use Rattle.model.proofs.Text.{and-true}
 use Rattle.model.proofs.Format.{parse-append, parse-refused, values-length, numbers-grid}
 use Rattle.sheet_fields.proofs.Parts.{next-on, next-append}
@@ -22,16 +22,16 @@ use Rattle.sheet_fields.proofs.Parts.{next-on, next-append}
 -- ---- how many numbers
 -- whether there is room, by the tests
 module _ (m : Measures) (psf gray dots n k : ℕ) (en : n ≡ cellsOf m) (ek : k ≡ entriesOf m) where
-  pub psf-short : psf < k → false ≡ fits m psf gray dots
+  pub psf-short : psf < k → false ≡ roomFor m psf gray dots
   psf-short h = rw (← ek, lt-leb k psf h)
 
-  pub gray-short : k ≤ psf → gray < n → false ≡ fits m psf gray dots
+  pub gray-short : k ≤ psf → gray < n → false ≡ roomFor m psf gray dots
   gray-short h l = rw (← ek, ← en, le-leb k psf h, lt-leb n gray l)
 
-  pub dots-room : k ≤ psf → n ≤ gray → m .start ≡ 2 → leb n dots ≡ fits m psf gray dots
+  pub dots-room : k ≤ psf → n ≤ gray → m .start ≡ 2 → leb n dots ≡ roomFor m psf gray dots
   dots-room h l t = rw (eq-eqb (m .start) 2 t, ← ek, ← en, le-leb k psf h, le-leb n gray l)
 
-  pub all-room : k ≤ psf → n ≤ gray → (m .start ≡ 2 → ⊥) → true ≡ fits m psf gray dots
+  pub all-room : k ≤ psf → n ≤ gray → (m .start ≡ 2 → ⊥) → true ≡ roomFor m psf gray dots
   all-room h l t =
       rw (ne-eqb (m .start) 2 t, ← ek, ← en, le-leb k psf h, le-leb n gray l, le-leb 0 dots (omega arith))
 
@@ -39,7 +39,7 @@ module _ (m : Measures) where
   pub dots-all : m .start ≡ 2 → dotsIn m ≡ cellsOf m
   dots-all h = rw (eq-eqb (m .start) 2 h)
 
-  pub room : (psf gray dots : ℕ) → fits m psf gray dots ≡ true
+  pub room : (psf gray dots : ℕ) → roomFor m psf gray dots ≡ true
       → (entriesOf m ≤ psf) × (cellsOf m ≤ gray) × (dotsIn m ≤ dots)
   room psf gray dots e =
       let a = and-true (leb (entriesOf m) psf) _ e in

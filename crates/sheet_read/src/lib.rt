@@ -4,8 +4,8 @@ ghost use mathlib.Core.Path.{_≡_};
 ghost use Prim.Native.Nat.{_≤_};
 ghost use lib.ListN.{length};
 ghost use lib.Seq.{sets};
-ghost use Rattle.model.specs.Sheet.{sideOf, entriesOf, cellsOf, dotsIn, names, InRange};
-ghost use Rattle.model.specs.Format.{fixedAt, dotsBlock, body, parse, parseNext, headOf, fits, sheetOf, bodyEnd, ended};
+ghost use Rattle.model.specs.Sheet.{sideOf, entriesOf, cellsOf, dotsIn, names, InRange, roomFor};
+ghost use Rattle.model.specs.Format.{fixedAt, dotsBlock, body, parse, parseNext, headOf, sheetOf, bodyEnd, ended};
 use model::Field;
 use model::Head;
 use model::Measures;
@@ -82,7 +82,7 @@ fn cells(m: Measures) -> usize
 // Whether buffers of these lengths are long enough.
 pub fn has_room(m: Measures, psf: usize, gray: usize, dots: usize) -> bool
     requires { ⌜ InRange m ⌝ }
-    ensures { λ r. ⌜ r ≡ fits m psf gray dots ⌝ }
+    ensures { λ r. ⌜ r ≡ roomFor m psf gray dots ⌝ }
 {
     let cells = cells(m);
     if psf < entries(m) {
@@ -165,7 +165,7 @@ pub fn store_body(
 )
     requires { ⌜ InRange m ⌝ }
     requires { ⌜ bodyEnd m (now s) at .refusal ≡ 0 ⌝ }
-    requires { ⌜ fits m (length (now psf)) (length (now gray)) (length (now dots)) ≡ true ⌝ }
+    requires { ⌜ roomFor m (length (now psf)) (length (now gray)) (length (now dots)) ≡ true ⌝ }
     ensures { λ _. ⌜ now (psf .exit)
         ≡ sets (now (psf .entry)) 0 (sheetOf m (parse (body m) (now (s .entry)) at .values) .psf) ⌝ }
     ensures { λ _. ⌜ now (gray .exit)

@@ -11,7 +11,7 @@ use lib.Seq.{drop-cons, sets}
 use Rattle.model.specs.declared.Measures.{Measures}
 use Rattle.model.specs.Text.{digits}
 use Rattle.model.specs.Sheet.{sideOf, row, names, psfName, grayName, dotsName, valuesOf, sheetText, InRange, Shaped}
-use Rattle.model.specs.Format.{endOf, gridText, gridLength}
+use Rattle.model.specs.Sheet.{endOf, gridText, gridLength}
 use Rattle.model.specs.SheetCalls.{withGiven, writtenSheet}
 use Rattle.model.proofs.Rows.{grid-length, rows-grid}
 use Rattle.text_decimal.proofs.Digits.{sets-append}

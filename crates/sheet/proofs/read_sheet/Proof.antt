@@ -6,8 +6,7 @@ use borrow.Author.Needs.{needs}
 use borrow.Author.Tests.{not-true, not-false}
 use lib.ListN.{length}
 use Rattle.model.specs.declared.Head.{Head}
-use Rattle.model.specs.Sheet.{InRange}
-use Rattle.model.specs.Format.{fits}
+use Rattle.model.specs.Sheet.{InRange, roomFor}
 use Rattle.sheet.proofs.Outcomes.{read, head-refused, in-range, no-room, body-refused, read-done}
 use Rattle.sheet.proofs.read_sheet.Statement.{statement}
 use Rattle.sheet.proofs.read_sheet.Tie as tie
@@ -58,7 +57,7 @@ module _ (c : tie.Else2) where
   left = c .before .before .before
 
   roomy : let a = start (k left) .args in
-      fits (h (k left) .measures) (length (a .psf .now)) (length (a .gray .now)) (length (a .dots .now)) ≡ true
+      roomFor (h (k left) .measures) (length (a .psf .now)) (length (a .gray .now)) (length (a .dots .now)) ≡ true
   roomy = sym (c .before .has-room .ensures) ∙ not-false _ (c .if2 .left)
 
 judge-body-requires : tie.Need-judge-body-requires

@@ -4,7 +4,8 @@ use mathlib.Core.Path.{_≡_, sym, _∙_, ap}
 use Prim.Native.Nat.{_≤_, _-_}
 use native.Mathlib.Nat.{sub-zero}
 use borrow.Author.Needs.{needs}
-use Rattle.model.specs.Format.{grid, fieldAt, endOf, parse, placeOf}
+use Rattle.model.specs.Sheet.{endOf}
+use Rattle.model.specs.Format.{grid, fieldAt, parse, placeOf}
 use Rattle.sheet_fields.proofs.Parts.{left, grid-more, grid-stop, grid-past}
 use Rattle.sheet_fields.proofs.judge_grid.Statement.{statement}
 use Rattle.sheet_fields.proofs.judge_grid.Tie as tie

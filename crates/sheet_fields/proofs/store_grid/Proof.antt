@@ -7,7 +7,8 @@ use native.Mathlib.Nat.{sub-zero}
 use borrow.Author.Needs.{needs}
 use lib.ListN.{length, length-set}
 use lib.Seq.{sets}
-use Rattle.model.specs.Format.{Parsed, parsed, grid, fieldAt, endOf, parse}
+use Rattle.model.specs.Sheet.{endOf}
+use Rattle.model.specs.Format.{Parsed, parsed, grid, fieldAt, parse}
 use Rattle.sheet_fields.proofs.Parts.{left, grid-more, grid-good, grid-past, value-most, sets-more}
 use Rattle.sheet_fields.proofs.store_grid.Statement.{statement}
 use Rattle.sheet_fields.proofs.store_grid.Tie as tie

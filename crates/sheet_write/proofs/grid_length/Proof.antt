@@ -6,7 +6,7 @@ use native.Mathlib.Omega.{arith}
 use borrow.Author.Needs.{needs}
 use lib.ListN.{length, drop, getD, drop-of-length-le}
 use Rattle.model.specs.Text.{digits}
-use Rattle.model.specs.Format.{gridLength}
+use Rattle.model.specs.Sheet.{gridLength}
 use Rattle.sheet_write.proofs.Puts.{length-next}
 use Rattle.sheet_write.proofs.grid_length.Statement.{statement}
 use Rattle.sheet_write.proofs.grid_length.Tie as tie

@@ -2,7 +2,7 @@
 use mathlib.Core.Path.{sym, _∙_}
 use native.Mathlib.Omega.{arith}
 use borrow.Author.Needs.{needs}
-use Rattle.model.specs.Format.{gridText}
+use Rattle.model.specs.Sheet.{gridText}
 use Rattle.sheet_write.proofs.Puts.{part-next}
 use Rattle.sheet_write.proofs.put_block.Statement.{statement}
 use Rattle.sheet_write.proofs.put_block.Tie as tie

@@ -7,7 +7,7 @@ use borrow.Author.Needs.{needs}
 use lib.ListN.{length, drop, getD, drop-of-length-le}
 use lib.Seq.{sets}
 use Rattle.model.specs.Text.{digits}
-use Rattle.model.specs.Format.{endOf, gridText, gridLength}
+use Rattle.model.specs.Sheet.{endOf, gridText, gridLength}
 use Rattle.sheet_write.proofs.Puts.{length-next, grid-next}
 use Rattle.sheet_write.proofs.put_grid.Statement.{statement}
 use Rattle.sheet_write.proofs.put_grid.Tie as tie

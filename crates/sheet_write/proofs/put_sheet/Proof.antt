@@ -6,8 +6,7 @@ use native.Mathlib.Omega.{arith}
 use borrow.Author.Needs.{needs}
 use lib.ListN.{length}
 use lib.Seq.{sets}
-use Rattle.model.specs.Sheet.{sideOf, psfName, grayName, dotsName, sheetText}
-use Rattle.model.specs.Format.{gridLength}
+use Rattle.model.specs.Sheet.{sideOf, psfName, grayName, dotsName, sheetText, gridLength}
 use Rattle.model.specs.SheetCalls.{writtenSheet}
 use Rattle.sheet_write.proofs.Puts.{part-next, headText, block, block-length, sheet-parts, sheet-length}
 use Rattle.sheet_write.proofs.Puts.{psf-most, cells-most}

@@ -1,0 +1,102 @@
+-- What a text of a sheet is refused for (document 01: 10, 11 and 12, the leftmost place deciding), without a reader.
+use mathlib.Core.Bool.{false}
+use mathlib.Core.List.{List, [], _∷_, _++_}
+use mathlib.Core.Logic.{_⊎_}
+use mathlib.Core.Path.{_≡_}
+use Prim.Native.Nat.{ℕ, _≤_, _<_}
+use lib.ListN.{length, getD, take}
+use Rattle.model.specs.declared.Measures.{Measures}
+use Rattle.model.specs.Text.{digits, NoDigit}
+use Rattle.model.specs.Sheet.{Sheet, sideOf, roomFor, row, rows, gridText, names, psfName, grayName, dotsName}
+use Rattle.model.specs.Sheet.{valuesOf, Shaped, Stops}
+
+-- ---- the numbers of a sheet
+-- where they stand: in line 2, and in the rows of the psf, the gray and the dots
+pub data Section : Type 0 where
+  line2 psfRows grayRows dotsRows : Section
+
+abbrev pub numbersIn : Section → Sheet → List ℕ
+numbersIn line2 s = valuesOf (s .measures)
+numbersIn psfRows s = s .psf
+numbersIn grayRows s = s .gray
+numbersIn dotsRows s = s .dots
+
+-- how many stand in a row
+abbrev pub perRow : Section → Sheet → ℕ
+perRow line2 s = 5
+perRow psfRows s = sideOf (s .measures)
+perRow grayRows s = s .measures .width
+perRow dotsRows s = s .measures .width
+
+-- the field of number i: the measures as 1 to 4 say, the dots 0 or 1, the others 0 to 255
+abbrev pub least : Section → ℕ → ℕ
+least line2 i = getD (1 ∷ 1 ∷ 0 ∷ 0 ∷ 0 ∷ []) i 0
+least psfRows i = 0
+least grayRows i = 0
+least dotsRows i = 0
+
+abbrev pub most : Section → ℕ → ℕ
+most line2 i = getD (256 ∷ 256 ∷ 3 ∷ 6 ∷ 2 ∷ []) i 0
+most psfRows i = 255
+most grayRows i = 255
+most dotsRows i = 1
+
+-- ---- the text before a number
+-- lines 1 and 2
+abbrev pub headText : Measures → List ℕ
+headText m = names ++ row (valuesOf m)
+
+-- all lines above a section
+abbrev pub abovePsf : Sheet → List ℕ
+abovePsf s = headText (s .measures) ++ psfName
+
+abbrev pub aboveGray : Sheet → List ℕ
+aboveGray s = abovePsf s ++ (rows (sideOf (s .measures)) (sideOf (s .measures)) (s .psf) ++ grayName)
+
+abbrev pub aboveDots : Sheet → List ℕ
+aboveDots s = aboveGray s ++ (rows (s .measures .width) (s .measures .height) (s .gray) ++ dotsName)
+
+abbrev pub above : Section → Sheet → List ℕ
+above line2 s = names
+above psfRows s = abovePsf s
+above grayRows s = aboveGray s
+above dotsRows s = aboveDots s
+
+-- and the numbers of the section before number i, each with the byte that ends it
+abbrev pub textBefore : Section → Sheet → ℕ → List ℕ
+textBefore k s i = above k s ++ gridText (perRow k s) 0 (take i (numbersIn k s))
+
+-- ---- what draws 11 and 12; 10 is drawn where the text `Stops` to be one of a sheet
+-- 11: after the beginning of a sheet stands a number of it outside its field, of any size, as a whole run of digits
+pub record Outside (b : List ℕ) (at : ℕ) : Type 0 where
+  pub sheet : Sheet
+  pub shaped : Shaped sheet
+  pub section : Section
+  pub index : ℕ
+  pub rest : List ℕ
+  pub number : index < length (numbersIn section sheet)
+  pub text : let v = getD (numbersIn section sheet) index 0 in
+      b ≡ textBefore section sheet index ++ (digits v ++ rest)
+  pub run : NoDigit rest
+  pub outside : let v = getD (numbersIn section sheet) index 0 in (v < least section index) ⊎ (most section index < v)
+  pub place : at ≡ length (textBefore section sheet index)
+
+-- 12: after lines 1 and 2 with some measures, for which the buffers are too short
+pub record Short (b : List ℕ) (psf gray dots at : ℕ) : Type 0 where
+  pub measures : Measures
+  pub rest : List ℕ
+  pub text : b ≡ headText measures ++ rest
+  pub lacks : roomFor measures psf gray dots ≡ false
+  pub place : at ≡ length (headText measures)
+
+-- ---- the refusal of a text, with buffers of these lengths
+-- a refusal is drawn at a place
+abbrev pub Draws : (b : List ℕ) (psf gray dots refusal at : ℕ) → Type 0
+Draws b psf gray dots n at =
+    ((n ≡ 10) × Stops b at) ⊎ ((n ≡ 11) × Outside b at) ⊎ ((n ≡ 12) × Short b psf gray dots at)
+
+-- the one that decides: nothing is drawn to the left of it, and 12 comes first at an equal place
+pub record Leftmost (b : List ℕ) (psf gray dots refusal at : ℕ) : Type 0 where
+  pub drawn : Draws b psf gray dots refusal at
+  pub leftmost : (n o : ℕ) → Draws b psf gray dots n o → at ≤ o
+  pub twelve-first : Draws b psf gray dots 12 at → refusal ≡ 12
