@@ -30,6 +30,7 @@ pub mod Unseen
 pub mod Sheet
 pub mod Refused
 pub mod Program
+pub mod Printed
 pub mod Interface
 pub mod Examples
 pub mod Promises

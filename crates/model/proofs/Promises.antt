@@ -2,17 +2,16 @@
 -- calls answer and leave just this stands in their contracts (src/lib.rt of crates/filter, crates/starts and
 -- crates/search), which cite the same definitions.
 use mathlib.Core.Path.{_≡_, refl, sym, _∙_, ap, subst}
-use mathlib.Core.Bool.{Bool, true, false}
+use mathlib.Core.Bool.{true, false}
 use mathlib.Core.Logic.{_⊎_, inl, inr}
 use mathlib.Core.List.{List, [], _∷_, _++_, filter}
 use Prim.Native.Nat.{ℕ, _+_, _*_, _-_, _≤_, _<_}
 use native.Mathlib.Decide.{ℕ-discrete}
 use native.Mathlib.Omega.{arith}
-use borrow.Author.Tests.{eqb-true}
-use lib.Dec.{ltb, eqb, lit≤}
+use lib.Dec.{lit≤}
 use lib.IntN.{ℤ, pos, negℤ, natAbs, _+ℤ_, _-ℤ_, _*ℤ_}
 use lib.Signed.{_≤ℤ_, _<ℤ_}
-use lib.ListN.{length, getD, take, replicate}
+use lib.ListN.{length, getD, take}
 use lib.Seq.{sets}
 use Rattle.algebra.specs.Sum.{sumFrom, sumOver}
 use Rattle.algebra.specs.Quadratic.{Increment, Within, edited}
@@ -31,16 +30,15 @@ use Rattle.model.specs.Reference.{Move, made, toggle, swap, Reference, r
 use Rattle.model.specs.Reference.{Tried, accepted, declined, change, attempt}
 use Rattle.model.specs.Scan.{Convergence, turn, convergeFrom, converge}
 use Rattle.model.specs.Screen.{startDots}
-use Rattle.model.specs.Calls.{Reply, result, refused, Outcome, Buffers, withTable, startCall}
-use Rattle.model.specs.Calls.{laterCall, toggleCall, swapCall, convergeCall}
-use Rattle.model.specs.Lists.{Call, convergence, Result, tried, rested, Held, latest, answering}
+use Rattle.model.specs.Calls.{Reply, result, Outcome, Buffers, withTable, startCall}
+use Rattle.model.specs.Calls.{laterCall, toggleCall, swapCall}
+use Rattle.model.specs.Lists.{Call, convergence, Result, tried, rested, Held, latest}
 use Rattle.model.specs.Lists.{handOn, call, run}
 use Rattle.model.specs.Lists.{begin, acceptedBy, referenceCall, referenceRun, Expected, Rest}
-use Rattle.model.specs.Sheet.{Sheet, cellsOf, sheetText, Valid, Begins, Stops}
-use Rattle.model.specs.Format.{headOf, fits as roomFor, Read, readSheet}
+use Rattle.model.specs.Sheet.{Sheet, sheetText, Valid, Begins, Stops}
+use Rattle.model.specs.Format.{headOf, fits as roomFor, readSheet}
 use Rattle.model.specs.SheetCalls.{result as written, withGiven, writtenSheet, readCall, writeCall}
-use Rattle.model.specs.Program.{refusedText, statsText, convergedText, startedText, processedText}
-use Rattle.model.specs.Program.{handedDots, output}
+use Rattle.model.specs.ProgramPromises.{ProgramPromises}
 use Rattle.model.specs.Interface.{numbers, statsIn, startOver, Slices, slicesOf, heldIn, callOver, runOver}
 use Rattle.model.specs.Examples.{Examples, OneSided}
 use Rattle.model.proofs.Basic.{All}
@@ -64,6 +62,7 @@ use Rattle.model.proofs.Converge.{converge-scans, converge-counts, conv
 use Rattle.model.proofs.Lists.{heldOf, call-same, call-later, Alike, run-same, run-expected}
 use Rattle.model.proofs.Sheet.{read-exactly, read-back, same-text, written-whole, written-back}
 use Rattle.model.proofs.Refused.{read-draws, twelve-lacks, read-begins, ten-stops}
+use Rattle.model.proofs.Printed.{program-promises}
 use Rattle.model.proofs.Interface.{start-over, call-over, stored-read, run-over}
 use Rattle.model.proofs.Examples.{examples, one-sided}
 
@@ -525,112 +524,9 @@ module _ (m : Measures) (psf gray dots out : List ℕ) (k : ℕ) (done : writeCa
   written-sheet-reads-back = written-back m psf gray dots out k done psf-bytes gray-bytes
 
 -- ---- the program
--- what is printed of a sheet: it, with the dots of its settling, and the figures that belong to them
-module _ (input : List ℕ) (s : Sheet) where
-  abbrev held-against : Target
-  held-against = targetFor (s .measures) (s .psf) (s .gray)
-
-  pub record Printed (dots : List ℕ) (done : ConvergeResult) : Type 0 where
-    pub is-read : (input ≡ sheetText s) × Valid s
-    pub is-printed : output input
-        ≡ sheetText (writtenSheet (s .measures) (s .psf) (s .gray) dots) ++ statsText done
-    -- a sheet that can be handed in again
-    pub is-a-sheet : Valid (writtenSheet (s .measures) (s .psf) (s .gray) dots)
-    -- before: the squared error of the dots of the start
-    pub before-is-of-start : done .stats .«start_error»
-        ≡ squaredError held-against (startDots (s .measures) (s .gray) (handedDots s))
-    -- after: the squared error of the dots printed
-    pub after-is-of-dots : done .stats .error ≡ squaredError held-against dots
-    -- which are at rest
-    pub is-at-rest : Rest held-against (s .measures .reach) dots (filteredErrors held-against dots)
-
--- what a settling answers, in a list and by itself
-rested-is : (r : Reply ConvergeResult) (a : ConvergeResult) → answering rested r ≡ result (rested a) → r ≡ result a
-rested-is (result b) a e = let q : b ≡ a = cc in ap result q
-rested-is (refused n) a e = absurd (let z : _≡_ {A = ℕ} 0 1 = cc in omega arith)
-
--- a valid sheet with other dots, and start 2
-again : (s : Sheet) (dots : List ℕ) → Valid s → (length dots ≡ cellsOf (s .measures)) × AtMost 1 dots
-    → Valid (writtenSheet (s .measures) (s .psf) (s .gray) dots)
-again s dots v (long, bits) =
-    let r = v .in-range in
-    record {
-      in-range = record { wide = r .wide; high = r .high; near = r .near; reached = r .reached; kind = lit≤ tt };
-      shaped = record { psf-length = v .shaped .psf-length; gray-length = v .shaped .gray-length; dots-length = long };
-      psf-most = v .psf-most;
-      gray-most = v .gray-most;
-      dots-most = bits;
-    }
-
-module _ (input : List ℕ) where
-  abbrev Answer : Type 0
-  Answer =
-      ((s : Sheet) × (dots : List ℕ) × (done : ConvergeResult) × Printed input s dots done)
-      ⊎ ((n : ℕ) × (o : ℕ) × (output input ≡ refusedText n o))
-
-  -- a sheet that was started
-  module _ (s : Sheet) (given : (input ≡ sheetText s) × Valid s) where
-    abbrev handed : List ℤ
-    handed = replicate (cellsOf (s .measures)) (pos 0)
-
-    abbrev opening : Outcome Stats Buffers
-    opening = startCall (s .measures) (s .psf) (s .gray) (handedDots s) handed
-
-    started-prints : (stats : Stats) → opening .reply ≡ result stats
-        → output input ≡ startedText (s .measures) (s .psf) (s .gray) (result stats) (opening .buffer) → Answer
-    unfolding run
-    started-prints stats q e =
-        let d = demand-3 (s .measures) (s .psf) (s .gray) (handedDots s) handed stats (given .1 .gray-most) q
-        (convergence ∷ []) in
-        let c = d .convergences-end-at-rest [] [] refl in
-        let b = opening .buffer in
-        let o = convergeCall (s .measures) (s .psf) (s .gray) (b .dots) (b .table) stats in
-        let k = rested-is (o .reply) (c .answer) (c .is-answered) in
-        let latest-is : latest stats (answering rested (o .reply)) ≡ c .answer .stats =
-        ap (λ r. latest stats (answering rested r)) k in
-        inl (
-          s,
-          o .buffer .dots,
-          c .answer,
-          record {
-            is-read = given;
-            is-printed =
-                e ∙ ap (λ r. convergedText (s .measures) (s .psf) (s .gray) r (o .buffer .dots)) k;
-            is-a-sheet = again s (o .buffer .dots) (given .1) (d .dots-are-bits);
-            before-is-of-start = sym (ap (λ l. l .«start_error») latest-is) ∙ d .start-is-kept;
-            after-is-of-dots = sym (ap (λ l. l .error) latest-is) ∙ d .error-is-fresh;
-            is-at-rest =
-                subst (Rest (held-against input s) (s .measures .reach) (o .buffer .dots)) (d .table-is-fresh)
-                (c .is-at-rest);
-          },
-        )
-
-    sheet-prints : output input
-        ≡ processedText (s .measures) (s .psf) (s .gray) (handedDots s) handed → Answer
-    unfolding processedText
-    sheet-prints e = go (opening .reply) refl
-      where
-        go : (r : Reply Stats) → opening .reply ≡ r → Answer
-        go (result stats) q = started-prints stats q (e ∙ rw q)
-        go (refused n) q = inr (n, 0, e ∙ rw q)
-
-  -- for every input it prints a sheet so, or a refusal
-  pub program-prints : Answer
-  unfolding output
-  program-prints = go (ltb 32768 (length input)) refl
-    where
-      r : Read
-      r = readSheet input 49 4096 4096
-
-      short : ltb 32768 (length input) ≡ false → (b : Bool) → eqb (r .refusal) 0 ≡ b → Answer
-      short t true u =
-          let (e, v, _) = read-exactly input 49 4096 4096 (r .sheet) (eqb-true (r .refusal) 0 u, refl) in
-          sheet-prints (r .sheet) (e, v) (rw (t, u))
-      short t false u = inr (r .refusal, r .at, rw (t, u))
-
-      go : (b : Bool) → ltb 32768 (length input) ≡ b → Answer
-      go true t = inr (13, 0, rw t)
-      go false t = short t (eqb (r .refusal) 0) refl
+-- for every input: each refusal exactly when it is due, and otherwise a sheet at rest with its six figures
+pub program-prints : (input : List ℕ) → ProgramPromises input
+program-prints = program-promises
 
 -- ---- the C interface
 -- a ledger that was stored is read back as it was

@@ -17,5 +17,6 @@ pub mod Sheet
 pub mod Format
 pub mod SheetCalls
 pub mod Program
+pub mod ProgramPromises
 pub mod Interface
 pub mod Examples
