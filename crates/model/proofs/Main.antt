@@ -16,7 +16,7 @@ use Rattle.model.proofs.Text.{digits-low, digits-more, number-low, numb
 use Rattle.model.proofs.Sheet.{read-exactly, read-back, same-text, written-whole, written-back}
 use Rattle.model.proofs.Refused.{read-within}
 use Rattle.model.proofs.Leftmost.{refused-is-leftmost, leftmost-is-refused, read-draws-nothing}
-use Rattle.model.proofs.Printed.{program-prints}
+use Rattle.model.proofs.Printed.{program-promises}
 use Rattle.model.proofs.Interface.{start-over, call-over, stored-read, run-over}
 use Rattle.model.proofs.Examples.{examples, one-sided}
 
@@ -80,7 +80,7 @@ promises =
         written-sheet-is-text = written-whole m psf gray dots out k done psf-bytes gray-bytes;
         written-sheet-reads-back = written-back m psf gray dots out k done psf-bytes gray-bytes;
       };
-      program-promises = λ input. record { program-prints = program-prints input };
+      program-promises = program-promises;
       interface-promises = λ m psf gray. record {
         stored-stats-read-back = stored-read;
         start-takes-six-numbers = start-over m psf gray;

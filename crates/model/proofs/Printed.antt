@@ -1,111 +1,298 @@
--- What the program prints for every input.
-use mathlib.Core.Path.{_≡_, refl, sym, _∙_, ap, subst}
-use mathlib.Core.Bool.{true, false, Bool}
+-- The promise of the program (specs/ProgramPromises.antt): texts of refusals are apart from each other and from every
+-- sheet; a sheet that was read draws 6 or nothing, and comes to rest; so what is printed is what is due.
+use mathlib.Core.Path.{_≡_, refl, _∙_, ap, ap₂, sym, subst}
+use mathlib.Core.Bool.{Bool, true, false, _&&_}
+use mathlib.Core.List.{List, [], _∷_, _++_}
 use mathlib.Core.Logic.{_⊎_, inl, inr}
-use mathlib.Core.List.{List, [], _∷_}
-use Prim.Native.Nat.{ℕ}
+use Prim.Native.Nat.{ℕ, _≤_, _<_}
+use native.Mathlib.Decide.{ℕ-discrete}
 use native.Mathlib.Omega.{arith}
-use borrow.Author.Tests.{eqb-true}
-use lib.IntN.{ℤ, pos}
-use lib.ListN.{length, replicate}
+use borrow.Author.Tests.{ltb-true, ltb-false, lt-ltb, le-ltb, eqb-true, eq-eqb, ne-eqb}
 use lib.Dec.{ltb, eqb, lit≤}
-use Rattle.model.specs.declared.Stats.{Stats}
-use Rattle.model.specs.declared.ConvergeResult.{ConvergeResult}
-use Rattle.model.specs.Basic.{AtMost}
-use Rattle.model.specs.Calls.{Reply, result, refused, Outcome, Buffers, startCall, convergeCall}
-use Rattle.model.specs.Lists.{convergence, rested, latest, Rest, answering, runBy}
-use Rattle.model.specs.Sheet.{Sheet, sheetText, Valid, cellsOf}
-use Rattle.model.specs.Format.{readSheet, Read}
+use lib.IntN.{ℤ, pos, negsuc}
+use lib.Signed.{_≤ℤ_}
+use lib.ListN.{length, getD, drop, replicate, length-replicate}
+use Rattle.model.specs.declared.Measures.{Measures}
+use Rattle.model.specs.Psf.{total}
+use Rattle.model.specs.Error.{squaredError, Halftone}
+use Rattle.model.specs.Refusal.{Refusal, firstOf, above, badSize, badRadius, badReach, badKind, badLength, badSum}
+use Rattle.model.specs.Refusal.{badGiven, startRefusal}
+use Rattle.model.specs.State.{dotTotal, freshStats}
+use Rattle.model.specs.Reference.{Reference, statsOf}
+use Rattle.model.specs.Scan.{converge}
+use Rattle.model.specs.Calls.{startCall, laterCall, convergeCall}
+use Rattle.model.specs.Lists.{begin}
+use Rattle.model.specs.Text.{bytes, digits}
+use Rattle.model.specs.Sheet.{Sheet, cellsOf, names, sheetText, Valid}
+use Rattle.model.specs.Format.{Read, readSheet}
 use Rattle.model.specs.SheetCalls.{writtenSheet}
-use Rattle.model.specs.Program.{refusedText, handedDots, output, convergedText, startedText, processedText}
-use Rattle.model.specs.Promises.{heldAgainst, Printed}
-use Rattle.model.proofs.Demand3.{demand-3}
-use Rattle.model.proofs.Sheet.{read-exactly}
+use Rattle.model.specs.Program.{refusedText, whole, statsText, processedText, handedDots, output}
+use Rattle.model.specs.ProgramPromises.{IsSheet, StartRefuses, wrongSum, ProgramRefuses, tooLong, unread, unstarted}
+use Rattle.model.specs.ProgramPromises.{sheetTarget, firstDots, convergedFrom}
+use Rattle.model.specs.ProgramPromises.{Printed, Prints, Unrefused, ProgramPromises}
+use Rattle.model.proofs.Error.{squared-nonneg}
+use Rattle.model.proofs.Refusal.{first-passes, _nor_, within, equal, above-none}
+use Rattle.model.proofs.Start.{start-later}
+use Rattle.model.proofs.Later.{fits-later}
+use Rattle.model.proofs.Attempts.{Sound}
+use Rattle.model.proofs.Scan.{start-kept, sound-halftone, sound-kept}
+use Rattle.model.proofs.Converge.{converge-keeps, converge-rest}
+use Rattle.model.proofs.Text.{digits-apart}
+use Rattle.model.proofs.Sheet.{read-exactly, read-back, cells-fit}
+use Rattle.model.proofs.Leftmost.{refused-is-leftmost, leftmost-is-refused}
+use Rattle.model.proofs.Program.{output-long, output-is, few}
 
--- what a settling answers, in a list and by itself
-rested-is : (r : Reply ConvergeResult) (a : ConvergeResult) → answering rested r ≡ result (rested a) → r ≡ result a
-rested-is (result b) a e = let q : b ≡ a = cc in ap result q
-rested-is (refused n) a e = absurd (let z : _≡_ {A = ℕ} 0 1 = cc in omega arith)
+-- ---- the text of a refusal
+-- no two refusals have the same
+refusals-apart : (n o n′ o′ : ℕ) → refusedText n o ≡ refusedText n′ o′ → (n ≡ n′) × (o ≡ o′)
+unfolding refusedText
+refusals-apart n o n′ o′ e =
+    let at : ℕ → List ℕ = λ o. bytes " at " ++ (digits o ++ bytes "\n") in
+    let (x, f) = digits-apart n n′ (at o) (at o′) refl refl (ap (drop 8) e) in
+    let (y, _) = digits-apart o o′ (10 ∷ []) (10 ∷ []) refl refl (ap (drop 4) f) in
+    (x, y)
 
--- a valid sheet with other dots, and start 2
-again : (s : Sheet) (dots : List ℕ) → Valid s → (length dots ≡ cellsOf (s .measures)) × AtMost 1 dots
-    → Valid (writtenSheet (s .measures) (s .psf) (s .gray) dots)
-again s dots v (long, bits) =
-    let r = v .in-range in
-    record {
-      in-range = record { wide = r .wide; high = r .high; near = r .near; reached = r .reached; kind = lit≤ tt };
-      shaped = record { psf-length = v .shaped .psf-length; gray-length = v .shaped .gray-length; dots-length = long };
-      psf-most = v .psf-most;
-      gray-most = v .gray-most;
-      dots-most = bits;
-    }
+-- and it is not that of a sheet, whatever follows it
+refusal-no-sheet : (n o : ℕ) (s : Sheet) (rest : List ℕ) → refusedText n o ≡ sheetText s ++ rest → ⊥
+unfolding refusedText sheetText names
+refusal-no-sheet n o s rest e = let r-is-w : _≡_ {A = ℕ} 114 119 = ap (λ l. getD l 0 0) e in omega arith
 
-module _ (input : List ℕ) where
-  abbrev Answer : Type 0
-  Answer =
-      ((s : Sheet) × (dots : List ℕ) × (done : ConvergeResult) × Printed input s dots done)
-      ⊎ ((n : ℕ) × (o : ℕ) × (output input ≡ refusedText n o))
+-- ---- a sheet
+module _ (s : Sheet) (v : Valid s) where
+  abbrev m : Measures
+  m = s .measures
 
-  -- a sheet that was started
-  module _ (s : Sheet) (given : (input ≡ sheetText s) × Valid s) where
-    abbrev handed : List ℤ
-    handed = replicate (cellsOf (s .measures)) (pos 0)
+  abbrev table : List ℤ
+  table = replicate (cellsOf m) (pos 0)
 
-    abbrev opening : Outcome Stats Buffers
-    opening = startCall (s .measures) (s .psf) (s .gray) (handedDots s) handed
-
-    started-prints : (stats : Stats) → opening .reply ≡ result stats
-        → output input ≡ startedText (s .measures) (s .psf) (s .gray) (result stats) (opening .buffer) → Answer
-    unfolding runBy
-    started-prints stats q e =
-        let d = demand-3 (s .measures) (s .psf) (s .gray) (handedDots s) handed stats (given .1 .gray-most) q
-        (convergence ∷ []) in
-        let c = d .convergences-end-at-rest [] [] refl in
-        let b = opening .buffer in
-        let o = convergeCall (s .measures) (s .psf) (s .gray) (b .dots) (b .table) stats in
-        let k = rested-is (o .reply) (c .answer) (c .is-answered) in
-        let latest-is : latest stats (answering rested (o .reply)) ≡ c .answer .stats =
-        ap (λ r. latest stats (answering rested r)) k in
-        inl (
-          s,
-          o .buffer .dots,
-          c .answer,
-          record {
-            is-read = given;
-            is-printed =
-                e ∙ ap (λ r. convergedText (s .measures) (s .psf) (s .gray) r (o .buffer .dots)) k;
-            is-a-sheet = again s (o .buffer .dots) (given .1) (d .dots-are-bits);
-            before-is-of-start = sym (ap (λ l. l .«start_error») latest-is) ∙ d .start-is-kept;
-            after-is-of-dots = sym (ap (λ l. l .error) latest-is) ∙ d .error-is-fresh;
-            is-at-rest =
-                subst (Rest (heldAgainst input s) (s .measures .reach) (o .buffer .dots)) (d .table-is-fresh)
-                (c .is-at-rest);
-          },
-        )
-
-    sheet-prints : output input
-        ≡ processedText (s .measures) (s .psf) (s .gray) (handedDots s) handed → Answer
-    unfolding processedText
-    sheet-prints e = go (opening .reply) refl
-      where
-        go : (r : Reply Stats) → opening .reply ≡ r → Answer
-        go (result stats) q = started-prints stats q (e ∙ rw q)
-        go (refused n) q = inr (n, 0, e ∙ rw q)
-
-  -- for every input it prints a sheet so, or a refusal
-  pub program-prints : Answer
-  unfolding output
-  program-prints = go (ltb 32768 (length input)) refl
+  -- the dots that the start is handed
+  dots-handed : (length (handedDots s) ≡ cellsOf m) × (eqb (m .start) 2 && above 1 (handedDots s) ≡ false)
+  dots-handed = go (eqb (m .start) 2) refl
     where
-      r : Read
-      r = readSheet input 49 4096 4096
+      go : (b : Bool) → eqb (m .start) 2 ≡ b
+          → (length (handedDots s) ≡ cellsOf m) × (eqb (m .start) 2 && above 1 (handedDots s) ≡ false)
+      go true t = rw t (rw t at (v .shaped .dots-length), above-none 1 (s .dots) (v .dots-most))
+      go false t = rw t (length-replicate (cellsOf m) 0, refl)
 
-      short : ltb 32768 (length input) ≡ false → (b : Bool) → eqb (r .refusal) 0 ≡ b → Answer
-      short t true u =
-          let (e, v, _) = read-exactly input 49 4096 4096 (r .sheet) (eqb-true (r .refusal) 0 u, refl) in
-          sheet-prints (r .sheet) (e, v) (rw (t, u))
-      short t false u = inr (r .refusal, r .at, rw (t, u))
+  -- the start can draw 6 only
+  abbrev drawn : ℕ
+  drawn = startRefusal m (s .psf) (s .gray) (handedDots s) (length table)
+
+  start-draws : drawn ≡ firstOf (badSum (s .psf) ∷ [])
+  unfolding startRefusal
+  start-draws =
+      let (long, given) = dots-handed in
+      let r = v .in-range in
+      let sum : List Refusal = badSum (s .psf) ∷ [] in
+      let dot : List Refusal = badGiven (m .start) (handedDots s) ∷ [] in
+      let rest : List Refusal =
+      badSize (m .width) (m .height)
+      ∷ badRadius (m .radius)
+      ∷ badReach (m .reach)
+      ∷ badKind (m .start)
+      ∷ badLength (m .radius) (s .psf) (cellsOf m) (length (s .gray) ∷ length (handedDots s) ∷ length table ∷ [])
+      ∷ [] in
+      first-passes [] rest (sum ++ dot) (
+        within 256 (m .width) (r .wide) nor within 256 (m .height) (r .high),
+        (
+          le-ltb 3 (m .radius) (r .near),
+          (
+            le-ltb 6 (m .reach) (r .reached),
+            (
+              le-ltb 2 (m .start) (r .kind),
+              (
+                equal (v .shaped .psf-length)
+                    nor equal (v .shaped .gray-length)
+                    nor equal long
+                    nor equal (length-replicate (cellsOf m) (pos 0))
+                    nor refl,
+                tt,
+              ),
+            ),
+          ),
+        ),
+      )
+      ∙ first-passes sum dot [] (given, tt)
+
+  -- so it refuses what is named, or nothing
+  start-judged : ((n : ℕ) × StartRefuses s n) ⊎ (drawn ≡ 0)
+  start-judged = go (eqb (total (s .psf)) 0) refl (ltb 1024 (total (s .psf))) refl
+    where
+      go : (a : Bool) → eqb (total (s .psf)) 0 ≡ a → (b : Bool) → ltb 1024 (total (s .psf)) ≡ b
+          → ((n : ℕ) × StartRefuses s n) ⊎ (drawn ≡ 0)
+      go true t b u = inl (6, wrongSum (inl (eqb-true _ _ t)))
+      go false t true u = inl (6, wrongSum (inr (ltb-true _ _ u)))
+      go false t false u = inr (start-draws ∙ rw (t, u))
+
+  -- what is printed of the sheet: a refusal of the start
+  abbrev text : List ℕ
+  text = processedText m (s .psf) (s .gray) (handedDots s) table
+
+  refused-text : {n : ℕ} → StartRefuses s n → text ≡ refusedText n 0
+  unfolding processedText startCall
+  refused-text (wrongSum (inl e)) = rw (start-draws, eq-eqb (total (s .psf)) 0 e)
+  refused-text (wrongSum (inr h)) =
+      rw (start-draws, ne-eqb (total (s .psf)) 0 (λ e. omega (arith, h, e)), lt-ltb 1024 (total (s .psf)) h)
+
+  -- or, where it draws none, what comes to rest, which is not refused
+  module _ (taken : drawn ≡ 0) where
+    abbrev first : Reference
+    first = begin (sheetTarget s) (firstDots s)
+
+    first-sound : Sound m (s .psf) (s .gray) first
+    unfolding begin statsOf freshStats
+    first-sound = start-later m (s .psf) (s .gray) (handedDots s) (length table) (v .gray-most) taken
+
+    first-halftone : Halftone (sheetTarget s) (first .dots)
+    first-halftone = sound-halftone m (s .psf) (s .gray) first first-sound
+
+    wide : 0 < m .width
+    wide = v .in-range .wide .0
+
+    -- the text is that of the reference's dots and of its figures
+    text-is : text ≡ sheetText (writtenSheet m (s .psf) (s .gray) (convergedFrom s .after .dots))
+        ++ statsText (convergedFrom s .answer)
+    unfolding processedText startCall convergeCall laterCall begin freshStats statsOf
+    text-is = rw (taken, fits-later m (s .psf) (s .gray) _ _ _ first-sound)
+
+    -- whose dots are a halftone, and whose E at the start is that of the first dots
+    after-sound : Sound m (s .psf) (s .gray) (convergedFrom s .after)
+    unfolding converge
+    after-sound =
+        converge-keeps (sheetTarget s) (m .reach) wide (Sound m (s .psf) (s .gray)) (sound-kept m (s .psf) (s .gray))
+        first 0 first-halftone first-sound
+
+    after-start : convergedFrom s .after .start-error ≡ squaredError (sheetTarget s) (firstDots s)
+    unfolding converge begin
+    after-start =
+        converge-keeps (sheetTarget s) (m .reach) wide
+        (λ p. (p .start-error ≡ squaredError (sheetTarget s) (firstDots s)) × (p .start-dots ≡ dotTotal (firstDots s)))
+        (start-kept (sheetTarget s) _ _) first 0 first-halftone (refl, refl) .0
+
+    written-valid : Valid (writtenSheet m (s .psf) (s .gray) (convergedFrom s .after .dots))
+    written-valid =
+        let r = v .in-range in
+        let d = after-sound .plate .halftone in
+        record {
+          in-range = record { wide = r .wide; high = r .high; near = r .near; reached = r .reached; kind = lit≤ tt };
+          shaped = record {
+            psf-length = v .shaped .psf-length;
+            gray-length = v .shaped .gray-length;
+            dots-length = d .dots-length;
+          };
+          psf-most = v .psf-most;
+          gray-most = v .gray-most;
+          dots-most = d .bits;
+        }
+
+    printed : cellsOf m ≤ 4096 → {input : List ℕ} → output input ≡ text → Printed input s
+    unfolding converge statsOf
+    printed small e =
+        let after = convergedFrom s .after in
+        let t = sheetTarget s in
+        record {
+          dots = after .dots;
+          before = whole (after .start-error);
+          after = whole (squaredError t (after .dots));
+          on = after .on;
+          off = after .off;
+          swaps = after .swaps;
+          scans = convergedFrom s .answer .scans;
+          is-printed = e ∙ text-is;
+          dots-are-reference = refl;
+          is-at-rest =
+              converge-rest t (m .reach) wide (lit≤ tt) (v .in-range .reached) first 0 first-halftone;
+          before-is-of-start =
+              whole-is (after .start-error) (subst (λ z. pos 0 ≤ℤ z) (sym after-start) (nonneg (firstDots s)))
+              ∙ after-start;
+          after-is-of-dots = whole-is (squaredError t (after .dots)) (nonneg (after .dots));
+          on-is-reference = refl;
+          off-is-reference = refl;
+          swaps-is-reference = refl;
+          scans-is-reference = refl;
+          is-a-sheet = record { is-text = refl; is-valid = written-valid; is-small = small };
+        }
+      where
+        nonneg : (dots : List ℕ) → pos 0 ≤ℤ squaredError (sheetTarget s) dots
+        nonneg = squared-nonneg (sheetTarget s) wide
+
+        whole-is : (z : ℤ) → pos 0 ≤ℤ z → pos (whole z) ≡ z
+        whole-is (pos n) h = refl
+        whole-is (negsuc n) h = absurd (h .le)
+
+-- ---- an input
+module _ (input : List ℕ) where
+  abbrev r : Read
+  r = readSheet input 49 4096 4096
+
+  module _ (short : length input ≤ 32768) where
+    -- a sheet is read as this sheet, and nothing else is
+    sheet-text : (s : Sheet) → (given : IsSheet input s) → output input ≡ text s (given .is-valid)
+    sheet-text s given =
+        let fits = cells-fit (s .measures) (given .is-valid .in-range) 4096 (given .is-small) in
+        let (z, e) = read-back input 49 4096 4096 s (given .is-text) (given .is-valid) fits in
+        output-is input short ∙ rw (eq-eqb (r .refusal) 0 z, e)
+
+    read-sheet : r .refusal ≡ 0 → IsSheet input (r .sheet)
+    read-sheet z =
+        let (e, v, fits) = read-exactly input 49 4096 4096 (r .sheet) (z, refl) in
+        record { is-text = e; is-valid = v; is-small = few (r .sheet) v fits .1 }
+
+    unread-text : (r .refusal ≡ 0 → ⊥) → output input ≡ refusedText (r .refusal) (r .at)
+    unread-text z = output-is input short ∙ rw (ne-eqb (r .refusal) 0 z)
+
+  due-is-printed : {n o : ℕ} → ProgramRefuses input n o → output input ≡ refusedText n o
+  due-is-printed (tooLong h) = output-long input h
+  due-is-printed (unread {n} {o} short l) =
+      let (e, some, place) = leftmost-is-refused input 49 4096 4096 n o l in
+      unread-text short (λ z. some (sym e ∙ z)) ∙ ap₂ refusedText e place
+  due-is-printed (unstarted {s} short given d) = sheet-text short s given ∙ refused-text s (given .is-valid) d
+
+  -- one of the refusals is due, or a sheet is printed
+  abbrev Answer : Type 0
+  Answer = ((n : ℕ) × (o : ℕ) × ProgramRefuses input n o) ⊎ Prints input
+
+  answer : Answer
+  answer = go (ltb 32768 (length input)) refl
+    where
+      sheet : length input ≤ 32768 → r .refusal ≡ 0 → Answer
+      sheet short z = started (start-judged (r .sheet) (given .is-valid))
+        where
+          given : IsSheet input (r .sheet)
+          given = read-sheet short z
+
+          started : ((n : ℕ) × StartRefuses (r .sheet) n) ⊎ (drawn (r .sheet) (given .is-valid) ≡ 0) → Answer
+          started (inl (n, d)) = inl (n, 0, unstarted short given d)
+          started (inr e) =
+              inr (r .sheet, given, printed (r .sheet) (given .is-valid) e (given .is-small) (sheet-text short _ given))
+
+      read : length input ≤ 32768 → Dec (r .refusal ≡ 0) → Answer
+      read short (yes z) = sheet short z
+      read short (no z) =
+          inl (r .refusal, r .at, unread short (refused-is-leftmost input 49 4096 4096 _ _ (refl, z, refl)))
 
       go : (b : Bool) → ltb 32768 (length input) ≡ b → Answer
-      go true t = inr (13, 0, rw t)
-      go false t = short t (eqb (r .refusal) 0) refl
+      go true t = inl (13, 0, tooLong (ltb-true _ _ t))
+      go false t = read (ltb-false _ _ t) (ℕ-discrete (r .refusal) 0)
+
+  pub program-promises : ProgramPromises input
+  program-promises = record {
+    refuses-exactly = λ n o. (printed-is-due n o answer, due-is-printed);
+    one-refusal = λ n o n′ o′ d d′. refusals-apart n o n′ o′ (sym (due-is-printed d) ∙ due-is-printed d′);
+    prints-exactly = (λ (s, _, p) n o d. no-sheet n o d _ _ (p .is-printed), λ f. unrefused f answer);
+    no-sheet-when-refused = no-sheet;
+  }
+    where
+      no-sheet : (n o : ℕ) → ProgramRefuses input n o → (s : Sheet) (rest : List ℕ)
+          → output input ≡ sheetText s ++ rest → ⊥
+      no-sheet n o d s rest e = refusal-no-sheet n o s rest (sym (due-is-printed d) ∙ e)
+
+      printed-is-due : (n o : ℕ) → Answer → output input ≡ refusedText n o → ProgramRefuses input n o
+      printed-is-due n o (inl (k, i, d)) e =
+          let (x, y) = refusals-apart k i n o (sym (due-is-printed d) ∙ e) in
+          subst (λ k. ProgramRefuses input k o) x (subst (ProgramRefuses input k) y d)
+      printed-is-due n o (inr (s, _, p)) e = absurd (refusal-no-sheet n o _ _ (sym e ∙ p .is-printed))
+
+      unrefused : Unrefused input → Answer → Prints input
+      unrefused f (inl (n, o, d)) = absurd (f n o d)
+      unrefused f (inr p) = p

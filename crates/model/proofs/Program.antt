@@ -138,7 +138,7 @@ module _ (s : Sheet) (v : Valid s) (room : roomFor (s .measures) 49 4096 4096 �
   abbrev sizes : Measures
   sizes = s .measures
 
-  few : (entriesOf sizes ≤ 49) × (cellsOf sizes ≤ 4096)
+  pub few : (entriesOf sizes ≤ 49) × (cellsOf sizes ≤ 4096)
   few =
       let (p, rest) = and-true (leb (entriesOf sizes) 49) _ room in
       let (g, _) = and-true (leb (cellsOf sizes) 4096) _ rest in
@@ -189,7 +189,7 @@ module _ (b : List ℕ) (short : length b ≤ 32768) where
   unfolding readCall
   outcome-is = ap₂ (λ p c. outcomeOf (readSheet b p c c) emptyPsf emptyCells emptyCells) psf-long cells-long
 
-  output-is : output b ≡ readText r
+  pub output-is : output b ≡ readText r
   unfolding output
   output-is = rw (le-ltb 32768 (length b) short)
 

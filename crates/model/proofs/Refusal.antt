@@ -101,6 +101,12 @@ inside k n h =
     let (low, high) = neither (eqb n 0) (ltb k n) h in
     (omega (arith, eqb-false n 0 low), ltb-false k n high)
 
+pub within : (k n : ℕ) → (1 ≤ n) × (n ≤ k) → eqb n 0 || ltb k n ≡ false
+within k n i = ne-eqb n 0 (λ e. omega (arith, i .0, e)) nor le-ltb k n (i .1)
+
+pub equal : {m n : ℕ} → m ≡ n → not (eqb m n) ≡ false
+equal {m} {n} e = ap not (eq-eqb m n e)
+
 pub size-inside : (w h : ℕ) → outside w || outside h ≡ false → ((1 ≤ w) × (w ≤ 256)) × ((1 ≤ h) × (h ≤ 256))
 size-inside w h e =
     let (wide, high) = neither (outside w) (outside h) e in
@@ -112,7 +118,7 @@ none-above k [] h i = omega arith
 none-above k (x ∷ l) h zero = ltb-false k x (neither (ltb k x) (above k l) h .0)
 none-above k (x ∷ l) h (suc i) = none-above k l (neither (ltb k x) (above k l) h .1) i
 
-above-none : (k : ℕ) (l : List ℕ) → AtMost k l → above k l ≡ false
+pub above-none : (k : ℕ) (l : List ℕ) → AtMost k l → above k l ≡ false
 unfolding above
 above-none k [] h = refl
 above-none k (x ∷ l) h = rw (le-ltb k x (h .each 0)) (above-none k l (at-most-tail h))
@@ -206,12 +212,6 @@ halftone-none w h r psf gray dots table f = (
     ),
   ),
 )
-  where
-    within : (k n : ℕ) → (1 ≤ n) × (n ≤ k) → eqb n 0 || ltb k n ≡ false
-    within k n i = ne-eqb n 0 (λ e. omega (arith, i .0, e)) nor le-ltb k n (i .1)
-
-    equal : {m n : ℕ} → m ≡ n → not (eqb m n) ≡ false
-    equal {m} {n} e = ap not (eq-eqb m n e)
 
 -- ---- of the calls that are handed all five measures
 -- a plate that draws none of 1 to 7

@@ -373,12 +373,13 @@ module _ (m : Measures) (r : InRange m) where
   cells-most : cellsOf m ≤ 65536
   cells-most = mul-le-mul {n₂ = 256} {m₂ = 256} (r .high .1) (r .wide .1)
 
-  dots-most : dotsIn m ≤ 65536
-  dots-most = pick-cases (λ n. n ≤ 65536) (eqb (m .start) 2) (λ t. cells-most) (λ t. omega arith)
+  pub cells-fit : (k : ℕ) → cellsOf m ≤ k → roomFor m 49 k k ≡ true
+  cells-fit k h =
+      let d : dotsIn m ≤ k = pick-cases (λ n. n ≤ k) (eqb (m .start) 2) (λ t. h) (λ t. omega arith) in
+      rw (le-leb (entriesOf m) 49 entries-most, le-leb (cellsOf m) k h, le-leb (dotsIn m) k d)
 
   any-fits : roomFor m 49 65536 65536 ≡ true
-  any-fits =
-      rw (le-leb (entriesOf m) 49 entries-most, le-leb (cellsOf m) 65536 cells-most, le-leb (dotsIn m) 65536 dots-most)
+  any-fits = cells-fit 65536 cells-most
 
 pub same-text : (s s′ : Sheet) → Valid s → Valid s′ → sheetText s ≡ sheetText s′ → s ≡ s′
 same-text s s′ v v′ e =

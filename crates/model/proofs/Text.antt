@@ -14,6 +14,7 @@ use lib.ListN.{length, drop, length-append, drop-of-length-le}
 use Rattle.model.specs.declared.Item.the-variants.{Word, Number, LineEnd, Other}
 use Rattle.model.specs.declared.Run.{Run}
 use Rattle.model.specs.declared.Step.{Step}
+use Rattle.model.specs.Basic.{pick}
 use Rattle.model.specs.Text.{isLetter, isDigit, digitsIn, digits, capped, grow, NoDigit, runFrom, step}
 use Rattle.model.specs.Text.{numberStep, itemFrom, stepAt}
 
@@ -228,6 +229,39 @@ item-back (suc m) rest nd at =
     rw (ap (λ (l : List ℕ). l ++ rest) q) at g in
     ap (λ (l : List ℕ). itemFrom at (l ++ rest)) q ∙ item-first at x (xs ++ rest) _ lo hi g′
 
+-- ---- no two numbers have the same digits, whatever follows that is no digit
+-- the number that digits after v make, and what follows them
+abbrev valued : ℕ → List ℕ → ℕ × List ℕ
+valued v [] = (v, [])
+valued v (x ∷ xs) = pick (isDigit x) (valued (v * 10 + (x - 48)) xs) (v, x ∷ xs)
+
+valued-on : (f n : ℕ) → n ≤ f → (rest : List ℕ) → valued 0 (digitsIn f n ++ rest) ≡ valued n rest
+valued-on zero n h rest = rw (digit n (omega arith)) (ap (λ v. valued v rest) (omega arith))
+valued-on (suc f) n h rest = go (ltb n 10) refl (λ l. valued-on f (n / 10) l)
+  where
+    go : (b : Bool) → ltb n 10 ≡ b
+        → (n / 10 ≤ f → (r : List ℕ) → valued 0 (digitsIn f (n / 10) ++ r) ≡ valued (n / 10) r)
+        → valued 0 (digitsIn (suc f) n ++ rest) ≡ valued n rest
+    go true e ih =
+        let l = ltb-true n 10 e in
+        rw (e, digit n (omega arith)) (ap (λ v. valued v rest) (omega arith))
+    go false e ih =
+        let l = ltb-false n 10 e in
+        rw (e, append-assoc, ih (omega arith) (((48 + n % 10) ∷ []) ++ rest), digit (n % 10) (omega arith))
+        (ap (λ v. valued v rest) (omega arith))
+
+valued-back : (n : ℕ) (rest : List ℕ) → NoDigit rest → valued 0 (digits n ++ rest) ≡ (n, rest)
+unfolding digits
+valued-back n [] d = valued-on n n (le-refl n) []
+valued-back n (x ∷ xs) d = valued-on n n (le-refl n) (x ∷ xs) ∙ rw d
+
+pub digits-apart : (n n′ : ℕ) (rest rest′ : List ℕ) → NoDigit rest → NoDigit rest′
+    → digits n ++ rest ≡ digits n′ ++ rest′ → (n ≡ n′) × (rest ≡ rest′)
+digits-apart n n′ rest rest′ d d′ e =
+    let q = sym (valued-back n rest d) ∙ ap (valued 0) e ∙ valued-back n′ rest′ d′ in
+    (ap (λ p. p .0) q, ap (λ p. p .1) q)
+
+-- ---- what is yielded
 pub run-end : (xs : List ℕ) (v i : ℕ) → i ≤ runFrom v i xs .end
 run-end [] v i = le-refl i
 run-end (x ∷ xs) v i = go (isDigit x) refl (run-end xs (grow v x) (i + 1))

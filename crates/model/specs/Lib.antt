@@ -18,6 +18,7 @@ pub mod SheetRefusal
 pub mod Format
 pub mod SheetCalls
 pub mod Program
+pub mod ProgramPromises
 pub mod Interface
 pub mod Examples
 pub mod Promises

@@ -2,7 +2,7 @@
 -- of proofs/Main.antt. That the public calls answer and leave just what is said here stands in their contracts, which
 -- cite the same definitions.
 use mathlib.Core.Path.{_≡_}
-use mathlib.Core.Bool.{true, false}
+use mathlib.Core.Bool.{true}
 use mathlib.Core.Logic.{_⊎_}
 use mathlib.Core.List.{List, [], _∷_, _++_, filter}
 use Prim.Native.Nat.{ℕ, _+_, _*_, _-_, _/_, _%_, _≤_, _<_}
@@ -36,7 +36,7 @@ use Rattle.model.specs.Sheet.{Sheet, roomFor, sheetText, Valid}
 use Rattle.model.specs.SheetRefusal.{Draws, Leftmost}
 use Rattle.model.specs.Format.{readSheet}
 use Rattle.model.specs.SheetCalls.{result as written, withGiven, writtenSheet, readCall, writeCall}
-use Rattle.model.specs.Program.{refusedText, statsText, handedDots, output}
+use Rattle.model.specs.ProgramPromises.{ProgramPromises}
 use Rattle.model.specs.Interface.{numbers, statsIn, startOver, Slices, slicesOf, heldIn, callOver, runOver}
 use Rattle.model.specs.Examples.{Examples, OneSided}
 
@@ -293,32 +293,6 @@ module _ (m : Measures) (psf gray dots out : List ℕ) (k : ℕ) where
         × (r .psf ≡ sets p 0 psf)
         × (r .gray ≡ sets g 0 gray)
         × (r .dots ≡ sets d 0 dots)
-
--- ---- Program
--- what is printed of a sheet: it, with the dots of its settling, and the figures that belong to them
-module _ (input : List ℕ) (s : Sheet) where
-  abbrev pub heldAgainst : Target
-  heldAgainst = targetFor (s .measures) (s .psf) (s .gray)
-
-  pub record Printed (dots : List ℕ) (done : ConvergeResult) : Type 0 where
-    pub is-read : (input ≡ sheetText s) × Valid s
-    pub is-printed : output input
-        ≡ sheetText (writtenSheet (s .measures) (s .psf) (s .gray) dots) ++ statsText done
-    -- a sheet that can be handed in again
-    pub is-a-sheet : Valid (writtenSheet (s .measures) (s .psf) (s .gray) dots)
-    -- before: the squared error of the dots of the start
-    pub before-is-of-start : done .stats .«start_error»
-        ≡ squaredError heldAgainst (startDots (s .measures) (s .gray) (handedDots s))
-    -- after: the squared error of the dots printed
-    pub after-is-of-dots : done .stats .error ≡ squaredError heldAgainst dots
-    -- which are at rest
-    pub is-at-rest : Rest heldAgainst (s .measures .reach) dots (filteredErrors heldAgainst dots)
-
-pub record ProgramPromises (input : List ℕ) : Type 0 where
-  -- for every input it prints a sheet so, or a refusal
-  pub program-prints :
-      ((s : Sheet) × (dots : List ℕ) × (done : ConvergeResult) × Printed input s dots done)
-      ⊎ ((n : ℕ) × (o : ℕ) × (output input ≡ refusedText n o))
 
 -- ---- the C interface
 module _ (m : Measures) (psf gray : List ℕ) where

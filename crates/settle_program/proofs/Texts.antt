@@ -31,7 +31,7 @@ module _ (most : ℕ) (few : most ≤ 40960) (out : List ℕ) (answer : ℕ) (le
   put-same text other t ((e, h), l) = rw (← t) ((e, omega (arith, h, few)), l)
 
   -- what the program answers and leaves
-  pub run-put : (input text : List ℕ) → length left ≡ length out → 40960 ≤ length out
+  pub run-put : (input text : List ℕ) → length left ≡ length out → length out ≡ 40960
       → output input ≡ text → Put most out answer left text
       → (answer ≡ length (output input))
       × ((left ≡ sets out 0 (output input)) × ((answer ≤ length left) × (answer ≡ length (take answer left))))

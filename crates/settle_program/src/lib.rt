@@ -120,9 +120,8 @@ fn process(m: Measures, psf: &[u8], gray: &[u8], dots: &mut [u8], out: &mut [u8]
     )
 }
 
-// Puts what is printed for an input at the front of an output of at least 40,960 bytes, and answers its length.
-pub fn run(input: &[u8], out: &mut [u8]) -> usize
-    requires { ⌜ 40960 ≤ length (now out) ⌝ }
+// Puts what is printed for an input at the front of an output of 40,960 bytes, and answers its length.
+pub fn run(input: &[u8], out: &mut [u8; 40960]) -> usize
     ensures { λ r. ⌜ r ≡ length (output (now (input .entry))) ⌝ }
     ensures { λ _. ⌜ now (out .exit) ≡ sets (now (out .entry)) 0 (output (now (input .entry))) ⌝ }
     ensures { λ r. ⌜ (r ≤ length (now (out .exit))) × (r ≡ length (take r (now (out .exit)))) ⌝ }

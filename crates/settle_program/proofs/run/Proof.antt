@@ -5,7 +5,7 @@ use Prim.Native.Nat.{ℕ, _≤_}
 use native.Mathlib.Omega.{arith}
 use borrow.Author.Needs.{needs}
 use lib.IntN.{pos}
-use lib.ListN.{take, replicate}
+use lib.ListN.{length, take, replicate}
 use Rattle.model.specs.declared.Measures.{Measures}
 use Rattle.model.specs.Sheet.{entriesOf, cellsOf, InRange}
 use Rattle.model.specs.Program.{refusedText, processedText, output}
@@ -17,17 +17,14 @@ use Rattle.settle_program.proofs.run.Tie as tie
 put-refused-requires : tie.Need-put-refused-requires
 put-refused-requires c κs = search needs
 
-same-length : tie.Need-same-length
-same-length c = search needs
-
 returns : tie.Need-returns
 returns c =
-    let p = c .before .before in
-    let t = p .before .before in
-    let s = t .before .before .before in
-    run-put 64 (omega arith) (s .args .out .now) (p .put-refused .result) (p .put-refused .last .0)
-    (s .args .input .now) (refusedText 13 0) (p .put-refused .kept .0) (s .pre)
-    (output-long _ (omega (arith, t .if1 .taken))) (p .put-refused .ensures)
+    let p = c .before in
+    let t = p .before in
+    let s = t .before .before in
+    run-put 64 (omega arith) (s .args .out .now) (c .put-refused .result) (c .put-refused .last .0)
+    (s .args .input .now) (refusedText 13 0) (c .put-refused .kept .0) (p .put-refused-arg .given .0 .1)
+    (output-long _ (omega (arith, t .if1 .taken))) (c .put-refused .ensures)
 
 slice-aggregate-read-sheet : tie.Need-slice-aggregate-read-sheet
 slice-aggregate-read-sheet c = search needs
@@ -65,7 +62,7 @@ module _ (c : tie.After-reading2) where
   e = c .before .before .before .before .before
 
   abbrev s : tie.Start
-  s = e .before .before .before .before .before .before .before
+  s = e .before .before .before .before .before .before
 
   abbrev m : Measures
   m = c .reading2 .given .0 .0
@@ -95,40 +92,36 @@ process-requires c κs =
     let k = c .before .before .before .before .before in
     let h = handed k in
     let l = e k .read-sheet .kept in
-    (h .1, ((omega (arith, h, l), omega (arith, h, l), omega (arith, h, l)), (h .3, s k .pre)))
-
-same-length-2 : tie.Need-same-length-2
-same-length-2 c = search needs
+    let long : 40960 ≤ length (s k .args .out .now) = omega (arith, c .process-arg .given .0 .1) in
+    (h .1, ((omega (arith, h, l), omega (arith, h, l), omega (arith, h, l)), (h .3, long)))
 
 returns-2 : tie.Need-returns-2
 returns-2 c =
-    let p = c .before .before in
-    let k = p .before .before .before in
+    let p = c .before in
+    let k = p .before .before in
     let e = k .before .before .before .before .before in
     let l = e .before .before .before .before in
-    let s = l .before .before .before in
+    let s = l .before .before in
     let (number, (at, _)) = k .reading .given .0 in
-    run-put 64 (omega arith) (s .args .out .now) (p .put-refused2 .result) (p .put-refused2 .last .0)
-    (s .args .input .now) (refusedText number at) (p .put-refused2 .kept .0) (s .pre)
+    run-put 64 (omega arith) (s .args .out .now) (c .put-refused2 .result) (c .put-refused2 .last .0)
+    (s .args .input .now) (refusedText number at) (c .put-refused2 .kept .0) (p .put-refused-arg2 .given .0 .1)
     (read-refused _ (omega (arith, l .if1 .left)) _ _ _ (e .read-sheet .ensures .0) (k .reading .given .1))
-    (p .put-refused2 .ensures)
-
-same-length-3 : tie.Need-same-length-3
-same-length-3 c = search needs
+    (c .put-refused2 .ensures)
 
 returns-3 : tie.Need-returns-3
 returns-3 c =
-    let p = c .before .before .before in
-    let k = p .before .before .before .before .before .before in
+    let p = c .before in
+    let a = p .before in
+    let k = a .before .before .before .before .before in
     run-put 40960 (omega arith) (s k .args .out .now) (p .process .result) (p .process .last .1 .1 .1 .1 .0)
-    (s k .args .input .now) (text k) (p .process .kept .1 .1 .1 .1 .0) (s k .pre) (handed k .0) (p .process .ensures)
+    (s k .args .input .now) (text k) (p .process .kept .1 .1 .1 .1 .0) (a .process-arg .given .0 .1) (handed k .0)
+    (p .process .ensures)
 
 pub run-spec : {M : Type 1} → statement M
 run-spec =
     tie.close
     (tie.spec
     put-refused-requires
-    same-length
     returns
     slice-aggregate-read-sheet
     slice-aggregate-read-sheet-2
@@ -141,7 +134,5 @@ run-spec =
     slice-aggregate-process-2
     slice-aggregate-process-3
     process-requires
-    same-length-2
     returns-2
-    same-length-3
     returns-3)
