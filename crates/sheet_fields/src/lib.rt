@@ -36,8 +36,8 @@ fn ends_in(s: &[u8], at: usize, end: u8) -> bool
     }
 }
 
-// these bytes; the first that differs is refused
-fn read_fixed(s: &[u8], at: usize, bytes: &[u8]) -> Place
+// These bytes; the first that differs is refused.
+pub fn read_fixed(s: &[u8], at: usize, bytes: &[u8]) -> Place
     ensures { λ r. ⌜ r ≡ fixedAt (now (bytes .entry)) (now (s .entry)) at ⌝ }
 {
     let mut j: usize = 0;

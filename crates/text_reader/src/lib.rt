@@ -3,7 +3,7 @@ ghost use mathlib.Core.Bool.{true};
 ghost use mathlib.Core.Path.{_≡_};
 ghost use Prim.Native.Nat.{_≤_};
 ghost use lib.ListN.{length, drop};
-ghost use Rattle.model.specs.Text.{isLetter, isDigit, grow, wordEnd, runFrom, stepAt};
+ghost use Rattle.model.specs.Text.{isLetter, isDigit, growTo, wordEnd, runFrom, stepAt};
 use model::Item;
 use model::Run;
 use model::Step;
@@ -20,15 +20,16 @@ fn is_digit(b: u8) -> bool
     48 <= b && b <= 57
 }
 
-// a number with one digit more, 257 for all that is above 256
-fn with_digit(value: usize, b: u8) -> usize
-    requires { ⌜ value ≤ 257 ⌝ }
+// A number with one digit more, and the limit for every number that is not below it; ten times the value and a digit
+// fit a usize.
+pub fn with_digit(limit: usize, value: usize, b: u8) -> usize
+    requires { ⌜ value ≤ 1844674407370955160 ⌝ }
     requires { ⌜ isDigit b ≡ true ⌝ }
-    ensures { λ r. ⌜ r ≡ grow value b ⌝ }
-    ensures { λ r. ⌜ r ≤ 257 ⌝ }
+    ensures { λ r. ⌜ r ≡ growTo limit value b ⌝ }
+    ensures { λ r. ⌜ r ≤ limit ⌝ }
 {
     let grown = value * 10 + ((b - 48) as usize);
-    if grown < 257 { grown } else { 257 }
+    if grown < limit { grown } else { limit }
 }
 
 // where the letters from a place on end
@@ -61,7 +62,7 @@ fn digit_run(s: &[u8], at: usize) -> Run
                 end: i,
             };
         }
-        value = with_digit(value, b);
+        value = with_digit(257, value, b);
         i += 1;
     }
     Run {

@@ -2,6 +2,7 @@
 -- run that those from `at` on give.
 use mathlib.Core.Path.{_≡_, refl, sym, _∙_}
 use Prim.Native.Nat.{_≤_, _-_}
+use native.Mathlib.Omega.{arith}
 use borrow.Author.Needs.{needs}
 use borrow.Author.Tests.{not-true, not-false}
 use lib.ListN.{length, drop}
@@ -47,7 +48,7 @@ loop-again c =
     let l = b .before .before .before .loop in
     let digit = sym (b .is-digit .ensures) ∙ not-false _ (c .before .if1 .left) in
     let grown = c .with-digit .ensures in
-    (search needs, grown .1, rw (grown .0) (sym (run-more _ (l .i) (search needs) _ digit) ∙ l .inv .2))
+    (search needs, omega (arith, grown .1), rw (grown .0) (sym (run-more _ (l .i) (search needs) _ digit) ∙ l .inv .2))
 
 returns-2 : tie.Need-returns-2 Inv-loop μ-loop
 returns-2 c = sym (run-past _ _ (c .loop-test .left) _) ∙ c .before .loop .inv .2

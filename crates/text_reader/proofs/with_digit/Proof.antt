@@ -16,7 +16,7 @@ cast-grown : tie.Need-cast-grown
 cast-grown c = search needs
 
 add-grown : tie.Need-add-grown
-add-grown c = search needs
+add-grown c = let d = digit-range (c .args .b) (c .pre .1) in search needs
 
 returns : tie.Need-returns
 returns c = (simp (lt-ltb _ _ (c .if1 .taken)), omega arith)
