@@ -1,18 +1,21 @@
--- What holds of every halftone (01: plate) that is not refused, its gray being made of bytes: how many cells it has,
--- and the size of its errors, of T and of E.
-use mathlib.Core.List.{List}
+-- What holds of every halftone (01: plate) that is not refused: how many cells it has, that E is the sum of the squares
+-- of the perceived error, and, its gray being made of bytes, the size of its errors, of T and of E.
+use mathlib.Core.List.{List, []}
+use mathlib.Core.Path.{_≡_, _∙_}
 use Prim.Native.Nat.{ℕ, _*_, _≤_}
 use native.Mathlib.Nat.{le-trans, mul-le-mul, mul-le-mul-right}
 use native.Mathlib.Omega.{arith}
 use lib.IntN.{pos, natAbs}
 use lib.Signed.{_≤ℤ_}
+use lib.ListN.{length}
 use Rattle.algebra.proofs.Order.{natAbs-above}
 use Rattle.model.specs.Basic.{AtMost}
 use Rattle.model.specs.Error.{Target, targetOf, mostSquared, error}
-use Rattle.model.specs.Error.{filteredError, filteredErrors, squaredError}
-use Rattle.model.specs.Refusal.{HalftoneFits}
+use Rattle.model.specs.Error.{filteredError, filteredErrors, squaredError, perceivedSquares}
+use Rattle.model.specs.Refusal.{halftoneRefusal, HalftoneFits}
 use Rattle.model.specs.Window.{Small, mostFiltered}
-use Rattle.model.proofs.Error.{filtered≤, squared≤, squared-nonneg, error≤}
+use Rattle.model.proofs.Error.{filtered≤, squared≤, squared-perceived, squared-nonneg, error≤}
+use Rattle.model.proofs.Refusal.{halftone-again, halftone-fits}
 use Rattle.model.proofs.Window.{small-tabulate}
 
 -- its cells are at most 65,536
@@ -21,25 +24,41 @@ pub few-cells : {w h r : ℕ} {psf gray dots : List ℕ} {table : ℕ} → Halft
 few-cells f = mul-le-mul {n₂ = 256} {m₂ = 256} (f .high .1) (f .wide .1)
 
 module _ (w h r : ℕ) (psf gray dots : List ℕ) {table : ℕ}
-    (f : HalftoneFits w h r psf gray dots table) (bytes : AtMost 255 gray) where
+    (f : HalftoneFits w h r psf gray dots table) where
   abbrev target : Target
   target = targetOf w h r psf gray
 
-  pub errors-most : (n : ℕ) → natAbs (error target dots n) ≤ 255
-  errors-most n = error≤ target 255 dots n (omega (arith, f .bits .each n)) (bytes .each n)
-
-  pub filtered-most : (m : ℕ) → natAbs (filteredError target dots m) ≤ mostFiltered
-  filtered-most = filtered≤ target (f .wide .0) (f .psf-fits .square) 1024 255 (f .psf-fits .sum-high) dots errors-most
-
-  pub filtered-small : Small mostFiltered (filteredErrors target dots)
-  unfolding filteredErrors
-  filtered-small = small-tabulate mostFiltered (h * w) (filteredError target dots) (λ q l. filtered-most q)
-
+  -- whatever the gray is made of
   pub squared-least : pos 0 ≤ℤ squaredError target dots
   squared-least = squared-nonneg target (f .wide .0) dots
 
-  pub squared-most : squaredError target dots ≤ℤ pos mostSquared
-  squared-most =
-      natAbs-above (squaredError target dots) mostSquared
-      (le-trans (squared≤ target (f .wide .0) (f .psf-fits .square) 1024 255 (f .psf-fits .sum-high) dots errors-most)
-      (mul-le-mul-right (255 * mostFiltered) (few-cells f)))
+  module _ (bytes : AtMost 255 gray) where
+    pub errors-most : (n : ℕ) → natAbs (error target dots n) ≤ 255
+    errors-most n = error≤ target 255 dots n (omega (arith, f .bits .each n)) (bytes .each n)
+
+    pub filtered-most : (m : ℕ) → natAbs (filteredError target dots m) ≤ mostFiltered
+    filtered-most =
+        filtered≤ target (f .wide .0) (f .psf-fits .square) 1024 255 (f .psf-fits .sum-high) dots errors-most
+
+    pub filtered-small : Small mostFiltered (filteredErrors target dots)
+    unfolding filteredErrors
+    filtered-small = small-tabulate mostFiltered (h * w) (filteredError target dots) (λ q l. filtered-most q)
+
+    pub squared-most : squaredError target dots ≤ℤ pos mostSquared
+    squared-most =
+        natAbs-above (squaredError target dots) mostSquared
+        (le-trans (squared≤ target (f .wide .0) (f .psf-fits .square) 1024 255 (f .psf-fits .sum-high) dots errors-most)
+        (mul-le-mul-right (255 * mostFiltered) (few-cells f)))
+
+-- where the call for E is not refused, whatever the gray is made of
+module _ (w h r : ℕ) (psf gray dots : List ℕ) (taken : halftoneRefusal w h r psf gray dots [] ≡ 0) where
+  fits : HalftoneFits w h r psf gray dots (length gray)
+  fits = halftone-fits w h r psf gray dots (length gray) (halftone-again w h r psf gray dots ∙ taken)
+
+  -- E is the sum of the squares of the perceived error
+  pub taken-perceived : (let t = targetOf w h r psf gray in squaredError t dots ≡ perceivedSquares t dots)
+  taken-perceived = squared-perceived (targetOf w h r psf gray) (fits .wide .0) dots
+
+  -- so it is not below 0
+  pub taken-least : pos 0 ≤ℤ squaredError (targetOf w h r psf gray) dots
+  taken-least = squared-least w h r psf gray dots fits

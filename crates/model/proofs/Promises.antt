@@ -114,7 +114,7 @@ module _ (w h r : ℕ) (psf gray dots : List ℕ) (bytes : AtMost 255 gray) wher
 
     -- so E ≥ 0
     pub squared-error-is-not-negative : pos 0 ≤ℤ squaredError target dots
-    squared-error-is-not-negative = squared-least w h r psf gray dots fits bytes
+    squared-error-is-not-negative = squared-least w h r psf gray dots fits
 
     -- E is at most 4,468,483,974,758,400
     pub squared-error-is-bounded : squaredError target dots ≤ℤ pos 4468483974758400

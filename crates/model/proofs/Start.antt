@@ -62,7 +62,7 @@ module _ (m : Measures) (psf gray dots : List ℕ) (table : ℕ) (bytes : AtMost
   pub start-state : StateFits t begun (filteredErrors t begun) (freshStats t begun)
   start-state =
       fresh-fits t begun (fits .bits) (fits .dots-length)
-      (squared-least (m .width) (m .height) (m .radius) psf gray begun fits bytes)
+      (squared-least (m .width) (m .height) (m .radius) psf gray begun fits)
       (squared-most (m .width) (m .height) (m .radius) psf gray begun fits bytes)
 
   -- what is left is what later calls accept

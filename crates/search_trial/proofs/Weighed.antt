@@ -124,5 +124,5 @@ pub error-small : (m : Measures) (psf gray dots : List ℕ) (table : List ℤ) (
 error-small m psf gray dots table s f bytes =
     subst (λ (z : ℤ). natAbs z ≤ mostSquared) (sym (f .state .error-is))
     (natAbs-below _ mostSquared
-    (squared-least (m .width) (m .height) (m .radius) psf gray dots (f .halftone) bytes)
+    (squared-least (m .width) (m .height) (m .radius) psf gray dots (f .halftone))
     (squared-most (m .width) (m .height) (m .radius) psf gray dots (f .halftone) bytes))
