@@ -11,20 +11,23 @@ use Rattle.algebra.proofs.Solver.{ring!, reify}
 use Rattle.algebra.proofs.Grid.{cell<}
 use Rattle.model.specs.declared.Measures.{Measures}
 use Rattle.model.specs.declared.Stats.{Stats}
-use Rattle.model.specs.Error.{Target, targetFor, cellAt, filteredErrors, squaredError}
+use Rattle.model.specs.Error.{Target, targetFor, cellAt, filteredErrors, squaredError, cells}
 use Rattle.model.specs.Refusal.{HalftoneFits}
 use Rattle.model.specs.State.{toggleRefusal, swapRefusal, LaterFits}
 use Rattle.model.specs.Change.{counted}
 use Rattle.model.specs.Reference.{Move, made, toggle, swap, Reference, reference, accept}
 use Rattle.model.specs.Reference.{Tried, accepted, declined, Performed}
-use Rattle.model.specs.Reference.{ofOn, ofOff, ofSwaps, statsOf, change, lowers, attempt}
-use Rattle.model.specs.Calls.{result}
+use Rattle.model.specs.Reference.{ofOn, ofOff, ofSwaps, statsOf, change, lowers, attempt, Placed}
+use Rattle.model.specs.Calls.{result, toggleCall, swapCall, withTable, laterCall}
 use Rattle.model.specs.Lists.{tried, latest}
+use Rattle.model.specs.Promises.{Verdict, Tries}
 use Rattle.model.proofs.Basic.{pick-cases}
 use Rattle.model.proofs.Error.{filtered-long}
 use Rattle.model.proofs.State.{below, at-least}
 use Rattle.model.proofs.Reference.{Legal, toggle-legal, swap-legal, halftone-made, accept-fits}
-use Rattle.model.proofs.Later.{toggle-enters, swap-enters}
+use Rattle.model.proofs.Later.{toggle-enters, swap-enters, fits-later}
+use Rattle.model.proofs.Calls.{was-done}
+use Rattle.model.proofs.Change.{change-least}
 
 -- ---- an attempt that is not refused is legal
 module _ (m : Measures) (psf gray dots : List ℕ) (table : List ℤ) (s : Stats) where
@@ -164,3 +167,69 @@ module _ (m : Measures) (psf gray dots : List ℕ) (table : List ℤ) (s : Stats
     attempt-later =
         attempt-cases t (reference dots s) v Kept accept-sound
         (λ l. subst (λ T. LaterFits m psf gray dots T s) (f .state .table-is) f)
+
+-- ---- what an attempt that is not refused was handed, answers and leaves
+module _ (m : Measures) (psf gray dots : List ℕ) (table : List ℤ) (s : Stats) where
+  abbrev target : Target
+  target = targetFor m psf gray
+
+  tries : (v : Move) → LaterFits m psf gray dots table s → Legal (length dots) dots v
+      → (let done = attempt target (reference dots s) v in Tries m psf gray dots table s v (done .answer) (withTable target (done .after .dots)))
+  unfolding accept
+  tries v f legal =
+      let kept = attempt-later m psf gray dots table s f v legal in
+      record {
+        table-was-fresh = f .state .table-is;
+        error-was-sum = f .state .error-is;
+        table-is-fresh = refl;
+        error-is-sum = kept .state .error-is;
+        answer-is-reference = refl;
+        dots-are-reference = refl;
+        verdict = verdict;
+        is-accepted = fits-later m psf gray _ _ _ kept;
+      }
+    where
+      long : length dots ≡ cells (targetFor m psf gray)
+      long = f .halftone .dots-length
+
+      verdict : (let done = attempt target (reference dots s) v in
+          Verdict m psf gray dots table s v (withTable target (done .after .dots)) (done .answer))
+      verdict =
+          attempt-cases target (reference dots s) v (λ done. Verdict m psf gray dots table s v (withTable target (done .after .dots)) (done .answer))
+          (λ l. (
+            refl,
+            change-least target dots v long (subst (λ n. Placed n (v .sets)) long (legal .placed)) l,
+            sym (counted-is target dots s v (f .state .error-is) refl),
+            refl,
+          ))
+          (λ l. (refl, l, refl, sym (f .state .table-is)))
+
+  -- the call of an attempt that is legal once it is not refused
+  by-call : (number : ℕ) (v : Move) (answer : Tried)
+      → (number ≡ 0 → LaterFits m psf gray dots table s × Legal (length dots) dots v)
+      → laterCall number target dots table (attempt target (reference dots s) v) .reply ≡ result answer
+      → Tries m psf gray dots table s v answer (laterCall number target dots table (attempt target (reference dots s) v) .buffer)
+  unfolding laterCall
+  by-call number v answer enters e =
+      let (taken, value, same) = was-done _ _ number refl e in
+      let (fits, legal) = enters taken in
+      subst (λ o. Tries m psf gray dots table s v answer (o .buffer)) same
+      (subst (λ a. Tries m psf gray dots table s v a (withTable target (attempt target (reference dots s) v .after .dots))) value (tries v fits legal))
+
+  pub toggle-tries : (row col : ℕ) (answer : Tried)
+      → toggleCall m psf gray dots table s row col .reply ≡ result answer
+      → Tries m psf gray dots table s (toggle dots (cellAt (m .width) row col)) answer (toggleCall m psf gray dots table s row col .buffer)
+  unfolding toggleCall
+  toggle-tries row col answer =
+      by-call (toggleRefusal m psf gray dots table s row col) (toggle dots (cellAt (m .width) row col)) answer
+      (toggle-ready m psf gray dots table s row col)
+
+  pub swap-tries : (row col row′ col′ : ℕ) (answer : Tried)
+      → swapCall m psf gray dots table s row col row′ col′ .reply ≡ result answer
+      → Tries m psf gray dots table s (swap dots (cellAt (m .width) row col) (cellAt (m .width) row′ col′)) answer
+      (swapCall m psf gray dots table s row col row′ col′ .buffer)
+  unfolding swapCall
+  swap-tries row col row′ col′ answer =
+      by-call (swapRefusal m psf gray dots table s row col row′ col′)
+      (swap dots (cellAt (m .width) row col) (cellAt (m .width) row′ col′)) answer
+      (swap-ready m psf gray dots table s row col row′ col′)

@@ -46,11 +46,6 @@ pub pick-cong : {A : Type 0} (b : Bool) {x x′ : A} (y : A) → (b ≡ true →
 pick-cong true y f = f refl
 pick-cong false y f = refl
 
--- ---- what holds of every entry of a list
-abbrev pub All : {A : Type 0} → (A → Type 0) → List A → Type 0
-All P [] = Unit {0}
-All P (x ∷ l) = P x × All P l
-
 -- ---- a bounded list
 pub at-most-tail : {k x : ℕ} {l : List ℕ} → AtMost k (x ∷ l) → AtMost k l
 at-most-tail h = record { each = λ i. h .each (suc i) }

@@ -21,18 +21,13 @@ use Rattle.model.specs.Error.{filteredError, filteredErrors, squaredErro
 use Rattle.model.specs.Window.{addWindow, HoldsKernel}
 use Rattle.model.specs.Change.{sign, flipped, toggleSum, byteSwapSum, swapSum}
 use Rattle.model.specs.Change.{toggleChange, byteSwapChange, swapChange}
-use Rattle.model.specs.Reference.{Setting, Move, made, toggle, swap, change}
+use Rattle.model.specs.Reference.{Setting, Move, made, toggle, swap, change, Placed}
 use Rattle.model.proofs.Basic.{tabulate-cong}
 use Rattle.model.proofs.Error.{kernel-symmetric, filtered-edit, squared-edit}
 use Rattle.model.proofs.Window.{addWindow-tabulate, gain-kernel}
 use Rattle.model.proofs.Turn.{sign-is, sign-square, unlike-sign, toggle-sets, toggle-made}
 
 -- ---- stores as an edit
--- every cell of the list is below N
-abbrev pub Placed : ℕ → List Setting → Type 0
-Placed N [] = Unit {0}
-Placed N (x ∷ l) = (x .cell < N) × Placed N l
-
 -- what the stores add to the dots, one after the other
 abbrev units : List ℕ → List Setting → List Increment
 units dots [] = []

@@ -9,12 +9,12 @@ use borrow.Author.Tests.{eqb-true, eqb-false, eq-eqb, ne-eqb}
 use lib.Dec.{eqb}
 use lib.IntN.{natAbs}
 use Rattle.model.specs.Basic.{pick}
-use Rattle.model.specs.Error.{Target, cells, squaredError, filteredErrors}
+use Rattle.model.specs.Error.{Target, cells, squaredError, filteredErrors, Halftone}
 use Rattle.model.specs.Reference.{Reference}
 use Rattle.model.specs.Scan.{Rule, toggles, Sweep, sweep, Convergence, swapping, turn, convergeIn, convergeFrom}
 use Rattle.model.specs.Lists.{acceptedBy, Rest}
 use Rattle.model.proofs.Basic.{pick-cases}
-use Rattle.model.proofs.Scan.{Halftone, Lawful, toggles-lawful, swaps-lawful, Keeps, sweep-keeps}
+use Rattle.model.proofs.Scan.{Lawful, toggles-lawful, swaps-lawful, Keeps, sweep-keeps}
 use Rattle.model.proofs.Scan.{sweep-halftone, sweep-counts, sweep-lowers, sweep-still}
 use Rattle.model.proofs.Rest.{rest-by}
 

@@ -1,6 +1,6 @@
 -- What holds of every halftone (01: plate) that is not refused: how many cells it has, that E is the sum of the squares
 -- of the perceived error, and, its gray being made of bytes, the size of its errors, of T and of E.
-use mathlib.Core.List.{List, []}
+use mathlib.Core.List.{List, [], _∷_}
 use mathlib.Core.Path.{_≡_, _∙_}
 use Prim.Native.Nat.{ℕ, _*_, _≤_}
 use native.Mathlib.Nat.{le-trans, mul-le-mul, mul-le-mul-right}
@@ -12,11 +12,11 @@ use Rattle.algebra.proofs.Order.{natAbs-above}
 use Rattle.model.specs.Basic.{AtMost}
 use Rattle.model.specs.Error.{Target, targetOf, mostSquared, error}
 use Rattle.model.specs.Error.{filteredError, filteredErrors, squaredError, perceivedSquares}
-use Rattle.model.specs.Refusal.{halftoneRefusal, HalftoneFits}
+use Rattle.model.specs.Refusal.{HalftoneFits, halftoneRefusal}
 use Rattle.model.specs.Window.{Small, mostFiltered}
-use Rattle.model.proofs.Error.{filtered≤, squared≤, squared-perceived, squared-nonneg, error≤}
-use Rattle.model.proofs.Refusal.{halftone-again, halftone-fits}
+use Rattle.model.proofs.Error.{filtered≤, squared≤, squared-nonneg, error≤, squared-perceived}
 use Rattle.model.proofs.Window.{small-tabulate}
+use Rattle.model.proofs.Refusal.{halftone-again, halftone-fits}
 
 -- its cells are at most 65,536
 pub few-cells : {w h r : ℕ} {psf gray dots : List ℕ} {table : ℕ} → HalftoneFits w h r psf gray dots table
@@ -50,15 +50,24 @@ module _ (w h r : ℕ) (psf gray dots : List ℕ) {table : ℕ}
         (le-trans (squared≤ target (f .wide .0) (f .psf-fits .square) 1024 255 (f .psf-fits .sum-high) dots errors-most)
         (mul-le-mul-right (255 * mostFiltered) (few-cells f)))
 
--- where the call for E is not refused, whatever the gray is made of
-module _ (w h r : ℕ) (psf gray dots : List ℕ) (taken : halftoneRefusal w h r psf gray dots [] ≡ 0) where
-  fits : HalftoneFits w h r psf gray dots (length gray)
-  fits = halftone-fits w h r psf gray dots (length gray) (halftone-again w h r psf gray dots ∙ taken)
+-- ---- the same, by what the calls refuse
+module _ (w h r : ℕ) (psf gray dots : List ℕ) where
+  -- |T|
+  pub taken-filtered : (table m : ℕ) → halftoneRefusal w h r psf gray dots (table ∷ []) ≡ 0 → AtMost 255 gray
+      → natAbs (filteredError (targetOf w h r psf gray) dots m) ≤ mostFiltered
+  taken-filtered table m e bytes =
+      filtered-most w h r psf gray dots (halftone-fits w h r psf gray dots table e) bytes m
 
-  -- E is the sum of the squares of the perceived error
-  pub taken-perceived : (let t = targetOf w h r psf gray in squaredError t dots ≡ perceivedSquares t dots)
-  taken-perceived = squared-perceived (targetOf w h r psf gray) (fits .wide .0) dots
+  module _ (taken : halftoneRefusal w h r psf gray dots [] ≡ 0) where
+    fits : HalftoneFits w h r psf gray dots (length gray)
+    fits = halftone-fits w h r psf gray dots (length gray) (halftone-again w h r psf gray dots ∙ taken)
 
-  -- so it is not below 0
-  pub taken-least : pos 0 ≤ℤ squaredError (targetOf w h r psf gray) dots
-  taken-least = squared-least w h r psf gray dots fits
+    -- E, of any gray
+    pub taken-perceived : squaredError (targetOf w h r psf gray) dots ≡ perceivedSquares (targetOf w h r psf gray) dots
+    taken-perceived = squared-perceived (targetOf w h r psf gray) (fits .wide .0) dots
+
+    pub taken-nonneg : pos 0 ≤ℤ squaredError (targetOf w h r psf gray) dots
+    taken-nonneg = squared-least w h r psf gray dots fits
+
+    pub taken-squared : AtMost 255 gray → squaredError (targetOf w h r psf gray) dots ≤ℤ pos mostSquared
+    taken-squared bytes = squared-most w h r psf gray dots fits bytes

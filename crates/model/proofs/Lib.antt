@@ -30,6 +30,8 @@ pub mod Unseen
 pub mod Sheet
 pub mod Refused
 pub mod Program
+pub mod Demand3
+pub mod Printed
 pub mod Interface
 pub mod Examples
-pub mod Promises
+pub mod Main

@@ -8,7 +8,7 @@ use Prim.Native.Nat.{ℕ, zero, suc}
 use native.Mathlib.Nat.{le-refl}
 use lib.ListN.{length}
 use Rattle.model.specs.declared.Measures.{Measures}
-use Rattle.model.specs.Error.{Target, targetFor, cellAt, cells, filteredErrors}
+use Rattle.model.specs.Error.{Target, targetFor, cellAt, cells, filteredErrors, Halftone}
 use Rattle.model.specs.Refusal.{Refusal, _when_, firstOf}
 use Rattle.model.specs.State.{toggleNamed, swapNamed, swapAlike, later, LaterFits}
 use Rattle.model.specs.State.{laterRefusal, toggleRefusal, swapRefusal}
@@ -21,11 +21,11 @@ use Rattle.model.specs.Lists.{Result, tried, swept, rested}
 use Rattle.model.specs.Lists.{Held, latest, outcome, handOn, call, run}
 use Rattle.model.specs.Lists.{Replied, replied, referenceRefusals, does, unlessRefused, referenceCall}
 use Rattle.model.specs.Lists.{referenceRun, Expected}
-use Rattle.model.proofs.Basic.{All}
+use Rattle.model.specs.Basic.{All}
 use Rattle.model.proofs.Later.{later-draws}
 use Rattle.model.proofs.Reference.{Legal}
 use Rattle.model.proofs.Attempts.{toggle-ready, swap-ready, attempt-cases, Sound, entry-stats, entry-sound}
-use Rattle.model.proofs.Scan.{Halftone, Lawful, toggles-lawful, swaps-lawful, Keeps, sweep-keeps}
+use Rattle.model.proofs.Scan.{Lawful, toggles-lawful, swaps-lawful, Keeps, sweep-keeps}
 use Rattle.model.proofs.Scan.{sound-halftone, sound-kept}
 use Rattle.model.proofs.Converge.{converge-keeps}
 

@@ -12,43 +12,20 @@ use borrow.Author.Tests.{ltb-true, ltb-false, eqb-true, not-true, not-false, lt-
 use lib.Dec.{leb, ltb, eqb, leb·zero}
 use lib.IntN.{ℤ, pos, negsuc, natAbs, _+ℤ_, _-ℤ_}
 use lib.ListN.{length, getD}
-use lib.Signed.{leZ, ltZ, _<ℤ_}
+use lib.Signed.{leZ, ltZ}
 use Rattle.algebra.proofs.Grid.{cell<, cell-row, cell-column, row<, column<}
 use Rattle.algebra.proofs.Order.{natAbs-show, read≡, show≡}
 use Rattle.algebra.proofs.Solver.{ring!, reify}
 use Rattle.model.specs.Error.{cellAt}
 use Rattle.model.specs.Partners.{Offset, far, offsetAt, offsetsOf, offsetsFrom, offsets, inside, lands, partner}
+use Rattle.model.specs.Partners.{itself, Within, Before, farther, higher, further-left, Ordered}
 use Rattle.model.specs.Partners.{partnerRow, partnerColumn}
 use Rattle.model.specs.Refusal.{gap}
 use Rattle.model.specs.State.{unequal, someBelow}
 use Rattle.model.proofs.Refusal.{neither}
 use Rattle.model.proofs.State.{below, equal, all-below}
 
--- ---- what document 01 says of the list of offsets
--- (0,0)
-abbrev pub itself : Offset
-itself = record { down = pos 0; right = pos 0 }
-
--- both coordinates from -reach to reach, save (0,0)
-pub record Within (reach : ℕ) (o : Offset) : Type 0 where
-  pub rows : natAbs (o .down) ≤ reach
-  pub columns : natAbs (o .right) ≤ reach
-  pub other : o ≡ itself → ⊥
-
--- by falling sum of squares, then smaller row offset, then smaller column offset
-pub data Before (a b : Offset) : Type 0 where
-  farther : far b < far a → Before a b
-  higher : far a ≡ far b → a .down <ℤ b .down → Before a b
-  further-left : far a ≡ far b → a .down ≡ b .down → a .right <ℤ b .right → Before a b
-
--- the list holds these and no others, and each stands before all that follow, so none stands twice
-pub record Ordered (reach : ℕ) : Type 0 where
-  pub within : (o : Offset) → In o (offsets reach) → Within reach o
-  pub complete : (o : Offset) → Within reach o → In o (offsets reach)
-  pub farthest-first : (i j : ℕ) → i < j → j < length (offsets reach)
-      → Before (getD (offsets reach) i itself) (getD (offsets reach) j itself)
-
--- ---- the same as tests, each of a fault
+-- ---- what document 01 says of the list of offsets, as tests, each of a fault
 abbrev differ : Offset → Offset → Bool
 differ a b = unequal (a .down) (b .down) || unequal (a .right) (b .right)
 

@@ -2,6 +2,7 @@
 -- of all c is the square of the psf's sum. No mirror symmetry of the psf is used.
 use mathlib.Core.Path.{_≡_, refl, sym, _∙_, ap, ap₂, subst}
 use mathlib.Core.List.{List, [], _∷_}
+use mathlib.Core.Logic.{_⊎_, inl, inr}
 use Prim.Native.Nat.{ℕ, suc, _+_, _*_, _-_, _/_, _%_, _≤_, _<_}
 use native.Mathlib.Nat as NatL
 use native.Mathlib.Omega.{arith}
@@ -18,6 +19,7 @@ use Rattle.algebra.proofs.Interval.{sumFrom-cong, sumFrom-swap, sumFrom-swap2, 
 use Rattle.algebra.proofs.Interval.{sumFrom-shift, sumFrom-nonneg, correlate-turn, Supported2, grid≤, grid-whole}
 use Rattle.model.specs.Basic.{squareAt}
 use Rattle.model.specs.Psf.{total, psfAt, autocorrelation, autocorrelations}
+use Rattle.model.specs.Promises.{Passes}
 use Rattle.model.proofs.Basic.{square-above, square-below, square-left, square-right, square-inside, square-by}
 use Rattle.model.proofs.Basic.{length-tabulate, getD-tabulate}
 
@@ -273,3 +275,11 @@ module _ (r : ℕ) (psf : List ℕ) where
           ap (λ n. getD (autocorrelations r psf) (i * n + j) (pos 0)) (side r)
           ∙ getD-tabulate ((4 * r + 1) * (4 * r + 1)) _ (i * (4 * r + 1) + j) (pos 0) (cell< u v)
           ∙ ap₂ (λ a b. c (pos a -ℤ pos (2 * r)) (pos b -ℤ pos (2 * r))) (cell-row v) (cell-column i v)
+
+-- c is 0 where a coordinate of d passes 2r
+pub autocorrelation-ends : (r : ℕ) (psf : List ℕ) (dy dx : ℤ) → Passes r psf dy ⊎ Passes r psf dx
+    → autocorrelation r psf dy dx ≡ pos 0
+autocorrelation-ends r psf dy dx (inl (inl h)) = autocorrelation-supported r psf .rows dx .below dy h
+autocorrelation-ends r psf dy dx (inl (inr h)) = autocorrelation-supported r psf .rows dx .above dy h
+autocorrelation-ends r psf dy dx (inr (inl h)) = autocorrelation-supported r psf .columns dy .below dx h
+autocorrelation-ends r psf dy dx (inr (inr h)) = autocorrelation-supported r psf .columns dy .above dx h

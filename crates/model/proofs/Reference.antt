@@ -21,11 +21,11 @@ use Rattle.model.specs.Error.{Target, cells, filteredErrors, squaredErro
 use Rattle.model.specs.Refusal.{HalftoneFits}
 use Rattle.model.specs.State.{dotTotal, changes, StateFits}
 use Rattle.model.specs.Change.{flipped}
-use Rattle.model.specs.Reference.{Count, onCount, offCount, swapCount, ofOn, ofOff, ofSwaps}
+use Rattle.model.specs.Reference.{Count, onCount, offCount, swapCount, ofOn, ofOff, ofSwaps, Placed}
 use Rattle.model.specs.Reference.{Setting, Move, made, toggle, swap, reference, accept, statsOf, change}
 use Rattle.model.proofs.Error.{squared-nonneg}
 use Rattle.model.proofs.Turn.{two, toggle-sets, toggle-made}
-use Rattle.model.proofs.Change.{Placed, change-least}
+use Rattle.model.proofs.Change.{change-least}
 
 -- ---- one store
 total-set : (dots : List ℕ) (m x : ℕ) → m < length dots → total (set dots m x) + getD dots m 0 ≡ total dots + x

@@ -13,9 +13,9 @@ use lib.Signed.{_≤ℤ_}
 use lib.ListN.{getD}
 use Rattle.algebra.proofs.Solver.{reify}
 use Rattle.algebra.proofs.Order.{ordℤ, read≤, show≤}
-use Rattle.model.specs.Basic.{pick}
+use Rattle.model.specs.Basic.{pick, All}
 use Rattle.model.specs.Psf.{peak}
-use Rattle.model.specs.Error.{Target, cells, filteredError, filteredErrors}
+use Rattle.model.specs.Error.{Target, cells, filteredError, filteredErrors, Halftone}
 use Rattle.model.specs.Refusal.{gap}
 use Rattle.model.specs.Change.{signOf, sign, toggleSum}
 use Rattle.model.specs.State.{someBelow}
@@ -23,11 +23,11 @@ use Rattle.model.specs.Reference.{Move, toggle, swap, lowers}
 use Rattle.model.specs.Partners.{Offset, offsets, partner}
 use Rattle.model.specs.Scan.{toggles, suits, swapsBy, swaps}
 use Rattle.model.specs.Lists.{Rest}
-use Rattle.model.proofs.Basic.{pick-cases, All, getD-tabulate}
+use Rattle.model.proofs.Basic.{pick-cases, getD-tabulate}
 use Rattle.model.proofs.State.{at-least, all-below}
 use Rattle.model.proofs.Change.{toggle-change}
 use Rattle.model.proofs.Partners.{IsPartner, partners-cover}
-use Rattle.model.proofs.Scan.{Halftone, Calm}
+use Rattle.model.proofs.Scan.{Calm}
 
 -- what is known of all swaps with the partners, of one
 module _ (width height : ℕ) (dots : List ℕ) (m : ℕ) (P : Move → Type 0) where

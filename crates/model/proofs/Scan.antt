@@ -12,17 +12,17 @@ use borrow.Author.Tests.{eqb-false, not-true}
 use lib.Dec.{eqb}
 use lib.IntN.{ℤ, pos, negsuc, natAbs, _+ℤ_, _-ℤ_}
 use lib.Signed.{_≤ℤ_, _<ℤ_}
-use lib.ListN.{length, getD}
+use lib.ListN.{getD}
 use Rattle.algebra.proofs.Solver.{reify}
 use Rattle.algebra.proofs.Order.{natAbs-parts, read≤, read<, show≤}
 use Rattle.model.specs.declared.Measures.{Measures}
-use Rattle.model.specs.Basic.{AtMost}
-use Rattle.model.specs.Error.{Target, targetFor, cells, squaredError}
+use Rattle.model.specs.Basic.{All}
+use Rattle.model.specs.Error.{Target, targetFor, cells, squaredError, Halftone}
 use Rattle.model.specs.Reference.{Move, toggle, swap, made, Reference, accept, statsOf, change, lowers}
 use Rattle.model.specs.Partners.{Offset, offsets, lands, partner}
 use Rattle.model.specs.Scan.{Rule, toggles, suits, swapsBy, swaps, Sweep, tryEach, sweepTo}
 use Rattle.model.specs.Lists.{acceptedBy}
-use Rattle.model.proofs.Basic.{pick-cases, All}
+use Rattle.model.proofs.Basic.{pick-cases}
 use Rattle.model.proofs.Error.{squared-nonneg}
 use Rattle.model.proofs.State.{below, at-least}
 use Rattle.model.proofs.Reference.{Legal, toggle-legal, swap-legal, made-long, made-bits, counts}
@@ -39,11 +39,6 @@ all-map h [] a = tt
 all-map h (x ∷ l) a = (h x (a .0), all-map h l (a .1))
 
 -- ---- rules that attempt legal changes
--- the dots of a target: a byte for each cell, 0 or 1
-pub record Halftone (t : Target) (dots : List ℕ) : Type 0 where
-  pub long : length dots ≡ cells t
-  pub bits : AtMost 1 dots
-
 -- whatever the rule attempts at a cell of such dots is legal
 abbrev pub Lawful : Target → Rule → Type 0
 Lawful t rule =

@@ -13,12 +13,14 @@ use Rattle.model.specs.Error.{Target, targetFor, filteredErrors}
 use Rattle.model.specs.Screen.{startDots}
 use Rattle.model.specs.Refusal.{Refusal, handed, badGiven, startRefusal, HalftoneFits}
 use Rattle.model.specs.State.{freshStats, StateFits, LaterFits}
-use Rattle.model.specs.Calls.{result, refused, startCall}
+use Rattle.model.specs.Promises.{Begun}
+use Rattle.model.specs.Calls.{result, refused, startCall, withTable}
 use Rattle.model.proofs.Error.{filtered-long}
-use Rattle.model.proofs.Calls.{both-refused, both-done}
+use Rattle.model.proofs.Calls.{both-refused, both-done, was-done}
 use Rattle.model.proofs.Refusal.{none, start-fits}
 use Rattle.model.proofs.Halftone.{squared-least, squared-most}
-use Rattle.model.proofs.State.{fresh-fits}
+use Rattle.model.proofs.State.{fresh-fits, dots-counted}
+use Rattle.model.proofs.Later.{fits-later}
 
 -- ---- the answer and the buffers
 module _ (m : Measures) (psf gray dots : List ℕ) (table : List ℤ) where
@@ -78,3 +80,32 @@ module _ (m : Measures) (psf gray dots : List ℕ) (table : ℕ) (bytes : AtMost
         halftone = subst Fits (fits .table-length ∙ sym (filtered-long t begun)) fits;
         state = start-state;
       }
+
+-- ---- what a start that is not refused answers and leaves
+module _ (m : Measures) (psf gray : List ℕ) where
+  start-begun : (dots : List ℕ) (table : ℕ) → AtMost 255 gray → startRefusal m psf gray dots table ≡ 0
+      → Begun m psf gray (withTable (targetFor m psf gray) (startDots m gray dots))
+      (freshStats (targetFor m psf gray) (startDots m gray dots))
+  unfolding freshStats
+  start-begun dots table bytes e =
+      let f = start-state m psf gray dots table bytes e in
+      record {
+        start-error-is-sum = refl;
+        error-is-sum = refl;
+        start-error-is-not-negative = f .start-low;
+        start-error-is-bounded = f .start-high;
+        start-dots-are-counted = dots-counted (startDots m gray dots) (start-fits m psf gray dots table e .bits);
+        counts-are-0 = (refl, refl, refl);
+        table-is-fresh = refl;
+        is-accepted = fits-later m psf gray _ _ _ (start-later m psf gray dots table bytes e);
+      }
+
+  pub start-begins : (dots : List ℕ) (table : List ℤ) (s : Stats) → AtMost 255 gray
+      → startCall m psf gray dots table .reply ≡ result s
+      → Begun m psf gray (startCall m psf gray dots table .buffer) s
+  unfolding startCall
+  start-begins dots table s bytes e =
+      let (taken, value, same) = was-done _ _ (startRefusal m psf gray dots (length table)) refl e in
+      subst (λ o. Begun m psf gray (o .buffer) s) same
+      (subst (Begun m psf gray (withTable (targetFor m psf gray) (startDots m gray dots))) value
+      (start-begun dots (length table) bytes taken))

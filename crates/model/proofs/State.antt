@@ -21,8 +21,9 @@ use Rattle.model.specs.Psf.{total}
 use Rattle.model.specs.Error.{Target, cells, filteredError, filteredErrors, squaredError, mostSquared}
 use Rattle.model.specs.State.{dotTotal, unequal, someBelow, some, faults, freshStats}
 use Rattle.model.specs.State.{badTable, badStats, wrongStats, StateFits}
+use Rattle.model.specs.Refusal.{firstOf}
 use Rattle.model.proofs.Basic.{at-most-tail, getD-tabulate, tabulate-by}
-use Rattle.model.proofs.Refusal.{None, neither, _nor_}
+use Rattle.model.proofs.Refusal.{None, neither, _nor_, none, drawn-none}
 
 -- ---- the dot total
 pub total≤ : (k : ℕ) (l : List ℕ) → AtMost k l → total l ≤ length l * k
@@ -156,3 +157,14 @@ module _ (t : Target) (dots : List ℕ) where
         total-is = ap pos (omega arith);
         fall = rw (mul-zero (t .step), +ℤ-invr (squaredError t dots)) (≤ℤ-refl (pos 0));
       }
+
+-- ---- 20 and 21 are drawn exactly where the state does not fit
+module _ (t : Target) (dots : List ℕ) (table : List ℤ) (s : Stats) where
+  pub fits-accepted : StateFits t dots table s → firstOf (badTable t dots table ∷ badStats t dots s ∷ []) ≡ 0
+  fits-accepted f = drawn-none (badTable t dots table ∷ badStats t dots s ∷ []) (state-accepted t dots table s f)
+
+  pub accepted-fits : length table ≡ cells t → firstOf (badTable t dots table ∷ badStats t dots s ∷ []) ≡ 0
+      → StateFits t dots table s
+  unfolding badTable wrongStats
+  accepted-fits long e =
+      state-known t dots table s long (none (badTable t dots table ∷ badStats t dots s ∷ []) tt refl e)

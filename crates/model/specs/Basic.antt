@@ -17,6 +17,11 @@ unfoldable pub tabulate {ℓ} : {A : Type ℓ} → ℕ → (ℕ → A) → List 
 tabulate zero f = []
 tabulate (suc n) f = tabulate n f ++ (f n ∷ [])
 
+-- it holds of every entry of a list
+abbrev pub All : {A : Type 0} → (A → Type 0) → List A → Type 0
+All P [] = Unit {0}
+All P (x ∷ l) = P x × All P l
+
 -- every entry is at most k
 pub record AtMost (k : ℕ) (l : List ℕ) : Type 0 where
   pub each : (i : ℕ) → getD l i 0 ≤ k

@@ -3,10 +3,11 @@
 use mathlib.Core.List.{List}
 use Prim.Native.Nat.{ℕ, _+_, _*_, _/_, _%_}
 use lib.IntN.{ℤ, pos, negℤ, _-ℤ_, _*ℤ_}
-use lib.ListN.{getD}
+use lib.ListN.{getD, length}
 use Rattle.algebra.specs.Sum.{sumTo, sumFrom}
+use mathlib.Core.Path.{_≡_}
 use Rattle.model.specs.declared.Measures.{Measures}
-use Rattle.model.specs.Basic.{tabulate}
+use Rattle.model.specs.Basic.{tabulate, AtMost}
 use Rattle.model.specs.Psf.{psfAt, autocorrelation}
 
 -- what a halftone is held against: the size of the plate, the psf, the gray, and the step that one dot is worth
@@ -78,3 +79,8 @@ module _ (t : Target) where
     perceivedSquares =
         sumFrom (negℤ (pos (t .radius))) (t .height + 2 * t .radius) (λ y.
         sumFrom (negℤ (pos (t .radius))) (t .width + 2 * t .radius) (λ x. perceivedError y x *ℤ perceivedError y x))
+
+-- dots for a target (01: the dots of a plate): a byte for each cell, 0 or 1
+pub record Halftone (t : Target) (dots : List ℕ) : Type 0 where
+  pub long : length dots ≡ cells t
+  pub bits : AtMost 1 dots

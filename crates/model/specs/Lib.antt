@@ -19,3 +19,4 @@ pub mod SheetCalls
 pub mod Program
 pub mod Interface
 pub mod Examples
+pub mod Promises

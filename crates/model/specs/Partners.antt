@@ -1,13 +1,13 @@
 -- The partners of a cell in a swap scan: the offsets within reach in document 01's order, farthest first, and the cells
 -- where they land.
 use mathlib.Core.Bool.{Bool, _&&_}
-use mathlib.Core.List.{List, [], _∷_, _++_}
+use mathlib.Core.List.{List, [], _∷_, _++_, List·Memᴰ as In}
 use mathlib.Core.Path.{_≡_}
 use Prim.Native.Nat.{ℕ, zero, suc, _+_, _*_, _/_, _%_, _≤_, _<_}
 use lib.Dec.{eqb}
 use lib.IntN.{ℤ, pos, natAbs, _+ℤ_, _-ℤ_, _*ℤ_}
 use lib.ListN.{length, getD}
-use lib.Signed.{leZ, ltZ}
+use lib.Signed.{leZ, ltZ, _<ℤ_}
 use Rattle.model.specs.Basic.{pick, squareAt}
 use Rattle.model.specs.Error.{cellAt}
 
@@ -41,6 +41,30 @@ module _ (q : ℕ) where
 -- all of them save (0,0), farthest first
 unfoldable pub offsets : (reach : ℕ) → List Offset
 offsets q = offsetsFrom q (2 * q * q)
+
+-- ---- what document 01 says of the list of offsets
+-- (0,0)
+abbrev pub itself : Offset
+itself = record { down = pos 0; right = pos 0 }
+
+-- both coordinates from -reach to reach, save (0,0)
+pub record Within (reach : ℕ) (o : Offset) : Type 0 where
+  pub rows : natAbs (o .down) ≤ reach
+  pub columns : natAbs (o .right) ≤ reach
+  pub other : o ≡ itself → ⊥
+
+-- by falling sum of squares, then smaller row offset, then smaller column offset
+pub data Before (a b : Offset) : Type 0 where
+  farther : far b < far a → Before a b
+  higher : far a ≡ far b → a .down <ℤ b .down → Before a b
+  further-left : far a ≡ far b → a .down ≡ b .down → a .right <ℤ b .right → Before a b
+
+-- the list holds these and no others, and each stands before all that follow, so none stands twice
+pub record Ordered (reach : ℕ) : Type 0 where
+  pub within : (o : Offset) → In o (offsets reach) → Within reach o
+  pub complete : (o : Offset) → Within reach o → In o (offsets reach)
+  pub farthest-first : (i j : ℕ) → i < j → j < length (offsets reach)
+      → Before (getD (offsets reach) i itself) (getD (offsets reach) j itself)
 
 -- as the code holds them: the first `count` of two lists, each coordinate with 6 added
 abbrev pub biased : (down right : ℕ) → Offset

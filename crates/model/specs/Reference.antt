@@ -2,7 +2,7 @@
 -- attempt makes its change on a copy of the dots, and the copy replaces them where its E is lower.
 use mathlib.Core.Bool.{Bool}
 use mathlib.Core.List.{List, [], _∷_}
-use Prim.Native.Nat.{ℕ, _+_}
+use Prim.Native.Nat.{ℕ, _+_, _<_}
 use lib.Dec.{eqb}
 use lib.IntN.{ℤ, pos, _-ℤ_}
 use lib.Signed.{ltZ}
@@ -25,6 +25,11 @@ pub record Setting : Type 0 where
 pub record Move : Type 0 where
   pub raises : Count
   pub sets : List Setting
+
+-- every cell that it sets is one of the N of the plate
+abbrev pub Placed : ℕ → List Setting → Type 0
+Placed N [] = Unit {0}
+Placed N (x ∷ l) = (x .cell < N) × Placed N l
 
 -- the copy of the dots on which it is made
 unfoldable pub made : List ℕ → List Setting → List ℕ

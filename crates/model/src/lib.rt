@@ -1,4 +1,4 @@
-// The public types of the plate maker. What they mean is in specs/, and the promises are in proofs/Promises.antt.
+// The public types of the plate maker. What they mean, and the promises, are in specs/.
 
 // Document 01's measures: the size of the plate, the radius of the psf, the reach of a swap and the kind of start.
 pub struct Measures {

@@ -1,0 +1,82 @@
+-- The promises of document 01 hold (specs/Promises.antt): a line for each, which cites the law that does the work.
+use Rattle.model.specs.Change.{toggleSum, swapSum}
+use Rattle.model.specs.Reference.{change}
+use Rattle.model.specs.Promises.{Promises}
+use Rattle.model.proofs.Psf.{autocorrelation-even, autocorrelation-ends}
+use Rattle.model.proofs.Psf.{autocorrelation-nonneg, autocorrelation-total}
+use Rattle.model.proofs.Halftone.{taken-perceived, taken-nonneg, taken-filtered, taken-squared}
+use Rattle.model.proofs.Change.{toggle-change, swap-change, change-least}
+use Rattle.model.proofs.Attempts.{toggle-tries, swap-tries}
+use Rattle.model.proofs.Start.{start-begins}
+use Rattle.model.proofs.Partners.{offsets-ordered}
+use Rattle.model.proofs.Converge.{converge-rule, converge-only}
+use Rattle.model.proofs.Demand3.{demand-3, left-is-accepted}
+use Rattle.model.proofs.State.{fits-accepted, accepted-fits}
+use Rattle.model.proofs.Sheet.{read-exactly, read-back, same-text, written-whole, written-back}
+use Rattle.model.proofs.Refused.{read-draws, twelve-lacks, read-begins, ten-stops}
+use Rattle.model.proofs.Printed.{program-prints}
+use Rattle.model.proofs.Interface.{start-over, call-over, stored-read, run-over}
+use Rattle.model.proofs.Examples.{examples, one-sided}
+
+pub promises : Promises
+unfolding change toggleSum swapSum
+promises =
+    record {
+      autocorrelation-promises = λ r psf. record {
+        c-is-even = autocorrelation-even r psf;
+        c-ends-at-2r = autocorrelation-ends r psf;
+        c-is-not-negative = autocorrelation-nonneg r psf;
+        c-sums-to-square = autocorrelation-total r psf;
+      };
+      error-promises = λ w h r psf gray dots. record {
+        squared-error-is-perceived = taken-perceived w h r psf gray dots;
+        squared-error-is-not-negative = taken-nonneg w h r psf gray dots;
+        table-is-bounded = taken-filtered w h r psf gray dots;
+        squared-error-is-bounded = taken-squared w h r psf gray dots;
+      };
+      change-promises = λ t dots long. record {
+        toggle-changes-by = λ bits. toggle-change t dots bits long;
+        swap-changes-by = λ bits. swap-change t dots bits long;
+        change-below-0-is-a-step = λ v. change-least t dots v long;
+      };
+      attempt-promises = λ m psf gray dots table s. record {
+        toggle-tries = toggle-tries m psf gray dots table s;
+        swap-tries = swap-tries m psf gray dots table s;
+      };
+      start-promises = λ m psf gray. record { start-begins = start-begins m psf gray };
+      scan-promises = record {
+        partners-are-ordered = offsets-ordered;
+        convergence-keeps-to-rule = converge-rule;
+        nothing-else-keeps-to-rule = converge-only;
+      };
+      list-promises = λ m psf gray. record {
+        demand-3 = demand-3 m psf gray;
+        left-is-accepted = left-is-accepted m psf gray;
+      };
+      state-promises = λ t dots table s. record {
+        fitting-state-is-accepted = fits-accepted t dots table s;
+        accepted-state-fits = accepted-fits t dots table s;
+      };
+      reading-promises = λ b p g d. record {
+        read-sheet-is-text = read-exactly b p g d;
+        text-is-read = λ s (e, v, f). read-back b p g d s e v f;
+        reader-draws = read-draws b p g d;
+        refusal-12-lacks-room = twelve-lacks b p g d;
+        what-was-read-begins-a-sheet = read-begins b p g d;
+        refusal-10-stops = ten-stops b p g d;
+      };
+      one-text-one-sheet = same-text;
+      writing-promises = λ m psf gray dots out k done psf-bytes gray-bytes. record {
+        written-sheet-is-text = written-whole m psf gray dots out k done psf-bytes gray-bytes;
+        written-sheet-reads-back = written-back m psf gray dots out k done psf-bytes gray-bytes;
+      };
+      program-promises = λ input. record { program-prints = program-prints input };
+      interface-promises = λ m psf gray. record {
+        stored-stats-read-back = stored-read;
+        start-takes-six-numbers = start-over m psf gray;
+        calls-take-six-numbers = call-over m psf gray;
+        interface-lists-are-lists = run-over m psf gray;
+      };
+      examples-hold = examples;
+      half-peak-is-one-sided = one-sided;
+    }

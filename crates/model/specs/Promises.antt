@@ -1,0 +1,337 @@
+-- The promises of document 01: a record for each of its parts, a field for each sentence. That they hold is `promises`
+-- of proofs/Main.antt. That the public calls answer and leave just what is said here stands in their contracts, which
+-- cite the same definitions.
+use mathlib.Core.Path.{_≡_}
+use mathlib.Core.Bool.{true, false}
+use mathlib.Core.Logic.{_⊎_}
+use mathlib.Core.List.{List, [], _∷_, _++_, filter}
+use Prim.Native.Nat.{ℕ, _+_, _*_, _-_, _≤_, _<_}
+use native.Mathlib.Decide.{ℕ-discrete}
+use lib.IntN.{ℤ, pos, negℤ, natAbs, _+ℤ_, _-ℤ_, _*ℤ_}
+use lib.Signed.{_≤ℤ_, _<ℤ_}
+use lib.ListN.{length, getD, take}
+use lib.Seq.{sets}
+use Rattle.algebra.specs.Sum.{sumFrom}
+use Rattle.model.specs.declared.Measures.{Measures}
+use Rattle.model.specs.declared.Stats.{Stats}
+use Rattle.model.specs.declared.ConvergeResult.{ConvergeResult}
+use Rattle.model.specs.Basic.{AtMost, All}
+use Rattle.model.specs.Psf.{total, autocorrelation, peak}
+use Rattle.model.specs.Error.{Target, targetOf, targetFor, cellAt, cells, kernel, Halftone}
+use Rattle.model.specs.Error.{filteredError, filteredErrors, squaredError, perceivedSquares}
+use Rattle.model.specs.Refusal.{firstOf, halftoneRefusal}
+use Rattle.model.specs.State.{dotTotal, badTable, badStats, StateFits, laterRefusal}
+use Rattle.model.specs.Change.{sign, counted}
+use Rattle.model.specs.Reference.{Move, Placed, made, toggle, swap, Reference, reference, statsOf}
+use Rattle.model.specs.Reference.{Tried, accepted, declined, change, attempt}
+use Rattle.model.specs.Partners.{Ordered}
+use Rattle.model.specs.Scan.{Convergence, turn, convergeFrom}
+use Rattle.model.specs.Screen.{startDots}
+use Rattle.model.specs.Calls.{Reply, result, Outcome, Buffers, startCall, toggleCall, swapCall}
+use Rattle.model.specs.Lists.{Call, convergence, Result, tried, rested, Held, latest, handOn, call, run}
+use Rattle.model.specs.Lists.{begin, acceptedBy, referenceCall, referenceRun, Expected, Rest}
+use Rattle.model.specs.Sheet.{Sheet, sheetText, Valid, Begins, Stops}
+use Rattle.model.specs.Format.{headOf, fits as roomFor, readSheet}
+use Rattle.model.specs.SheetCalls.{result as written, withGiven, writtenSheet, readCall, writeCall}
+use Rattle.model.specs.Program.{refusedText, statsText, handedDots, output}
+use Rattle.model.specs.Interface.{numbers, statsIn, startOver, Slices, slicesOf, heldIn, callOver, runOver}
+use Rattle.model.specs.Examples.{Examples, OneSided}
+
+-- ---- Plate, spread and peak: of any psf
+module _ (r : ℕ) (psf : List ℕ) where
+  -- a coordinate passes 2r
+  abbrev pub Passes : ℤ → Type 0
+  Passes d = (d <ℤ negℤ (pos (2 * r))) ⊎ (pos (2 * r) <ℤ d)
+
+  pub record AutocorrelationPromises : Type 0 where
+    -- c(d) = c(-d) always
+    pub c-is-even : (dy dx : ℤ) → autocorrelation r psf dy dx ≡ autocorrelation r psf (negℤ dy) (negℤ dx)
+    -- c is 0 where a coordinate of d passes 2r
+    pub c-ends-at-2r : (dy dx : ℤ) → Passes dy ⊎ Passes dx → autocorrelation r psf dy dx ≡ pos 0
+    -- c ≥ 0
+    pub c-is-not-negative : (dy dx : ℤ) → pos 0 ≤ℤ autocorrelation r psf dy dx
+    -- the sum of all c is the square of the psf's sum
+    pub c-sums-to-square : length psf ≡ (2 * r + 1) * (2 * r + 1)
+        → sumFrom (negℤ (pos (2 * r))) (4 * r + 1) (λ dy.
+        sumFrom (negℤ (pos (2 * r))) (4 * r + 1) (autocorrelation r psf dy))
+        ≡ pos (total psf) *ℤ pos (total psf)
+
+-- ---- Table and squared error: of every input that is not refused
+module _ (w h r : ℕ) (psf gray dots : List ℕ) where
+  abbrev target : Target
+  target = targetOf w h r psf gray
+
+  pub record ErrorPromises : Type 0 where
+    -- E equals the sum, over the cells of the plate widened by r on each side, of the squares of the spread-out error
+    pub squared-error-is-perceived : halftoneRefusal w h r psf gray dots [] ≡ 0
+        → squaredError target dots ≡ perceivedSquares target dots
+    -- so E ≥ 0
+    pub squared-error-is-not-negative : halftoneRefusal w h r psf gray dots [] ≡ 0 → pos 0 ≤ℤ squaredError target dots
+    -- |T| is at most 267,386,880, gray being made of bytes
+    pub table-is-bounded : (table m : ℕ) → halftoneRefusal w h r psf gray dots (table ∷ []) ≡ 0 → AtMost 255 gray
+        → natAbs (filteredError target dots m) ≤ 267386880
+    -- E is at most 4,468,483,974,758,400
+    pub squared-error-is-bounded : halftoneRefusal w h r psf gray dots [] ≡ 0 → AtMost 255 gray
+        → squaredError target dots ≤ℤ pos 4468483974758400
+
+-- ---- One change: of any target and step, and dots for its cells
+module _ (t : Target) (dots : List ℕ) where
+  pub record ChangePromises : Type 0 where
+    -- a toggle at m changes E by step × (2 × s(m) × T(m) + step × P)
+    pub toggle-changes-by : AtMost 1 dots → (m : ℕ) → m < cells t
+        → squaredError t (made dots (toggle dots m .sets)) -ℤ squaredError t dots
+        ≡ pos (t .step)
+        *ℤ (pos 2 *ℤ sign dots m *ℤ filteredError t dots m +ℤ pos (t .step) *ℤ peak (t .radius) (t .psf))
+    -- a swap of m and n, whose dots differ, by 2 × step × (s(m) × (T(m) - T(n)) + step × (P - c(m - n)))
+    pub swap-changes-by : AtMost 1 dots → (m n : ℕ) → m < cells t → n < cells t → (getD dots m 0 ≡ getD dots n 0 → ⊥)
+        → squaredError t (made dots (swap dots m n .sets)) -ℤ squaredError t dots
+        ≡ pos (2 * t .step)
+        *ℤ (sign dots m *ℤ (filteredError t dots m -ℤ filteredError t dots n)
+        +ℤ pos (t .step) *ℤ (peak (t .radius) (t .psf) -ℤ kernel t m n))
+    -- any change below 0, of cells on the plate, is at most -step
+    pub change-below-0-is-a-step : (v : Move) → Placed (cells t) (v .sets)
+        → change t dots v <ℤ pos 0 → change t dots v ≤ℤ negℤ (pos (t .step))
+
+-- attempts: what one that is not refused was handed, answers and leaves
+module _ (m : Measures) (psf gray dots : List ℕ) (table : List ℤ) (s : Stats) where
+  -- accepted exactly when the change is below 0, and then by 255 at least; declined, nothing changes
+  abbrev pub Verdict : Move → Buffers → Tried → Type 0
+  Verdict v left (accepted s′ d) =
+      (d ≡ change (targetFor m psf gray) dots v)
+      × (d ≤ℤ negℤ (pos 255))
+      × (s′ ≡ counted s d (v .raises))
+      × (left .dots ≡ made dots (v .sets))
+  Verdict v left (declined d) =
+      (d ≡ change (targetFor m psf gray) dots v) × (pos 0 ≤ℤ d) × (left .dots ≡ dots) × (left .table ≡ table)
+
+  pub record Tries (v : Move) (answer : Tried) (left : Buffers) : Type 0 where
+    -- before, the table is T and E now is the sum over the dots
+    pub table-was-fresh : table ≡ filteredErrors (targetFor m psf gray) dots
+    pub error-was-sum : s .error ≡ squaredError (targetFor m psf gray) dots
+    -- so they are after it, over the dots left
+    pub table-is-fresh : left .table ≡ filteredErrors (targetFor m psf gray) (left .dots)
+    pub error-is-sum : latest s (result (tried answer)) .error ≡ squaredError (targetFor m psf gray) (left .dots)
+    -- the answer and the dots are those of the reference, which has no table
+    pub answer-is-reference : answer ≡ attempt (targetFor m psf gray) (reference dots s) v .answer
+    pub dots-are-reference : left .dots ≡ attempt (targetFor m psf gray) (reference dots s) v .after .dots
+    pub verdict : Verdict v left answer
+    -- no later call refuses what is left: neither 1 to 7 nor 20 nor 21 is drawn
+    pub is-accepted : laterRefusal m psf gray (left .dots) (left .table) (latest s (result (tried answer))) ≡ 0
+
+  pub record AttemptPromises : Type 0 where
+    pub toggle-tries : (row col : ℕ) (answer : Tried)
+        → toggleCall m psf gray dots table s row col .reply ≡ result answer
+        → Tries (toggle dots (cellAt (m .width) row col)) answer (toggleCall m psf gray dots table s row col .buffer)
+    pub swap-tries : (row col row′ col′ : ℕ) (answer : Tried)
+        → swapCall m psf gray dots table s row col row′ col′ .reply ≡ result answer
+        → Tries (swap dots (cellAt (m .width) row col) (cellAt (m .width) row′ col′)) answer
+        (swapCall m psf gray dots table s row col row′ col′ .buffer)
+
+-- ---- Starts: what one that is not refused answers and leaves
+module _ (m : Measures) (psf gray : List ℕ) where
+  pub record Begun (left : Buffers) (s : Stats) : Type 0 where
+    -- E at the start and E now are the sum, over the dots left
+    pub start-error-is-sum : s .«start_error» ≡ squaredError (targetFor m psf gray) (left .dots)
+    pub error-is-sum : s .error ≡ squaredError (targetFor m psf gray) (left .dots)
+    -- E at the start is within 0 to 4,468,483,974,758,400
+    pub start-error-is-not-negative : pos 0 ≤ℤ s .«start_error»
+    pub start-error-is-bounded : s .«start_error» ≤ℤ pos 4468483974758400
+    -- the dots at the start are the number of dot bytes that are 1
+    pub start-dots-are-counted : s .«start_dots» ≡ length (filter (λ d. ℕ-discrete d 1) (left .dots))
+    -- the counts are 0
+    pub counts-are-0 : (s .on ≡ 0) × (s .off ≡ 0) × (s .swaps ≡ 0)
+    -- the table is that of the dots left
+    pub table-is-fresh : left .table ≡ filteredErrors (targetFor m psf gray) (left .dots)
+    -- what is left is what later calls accept: neither 1 to 7 nor 20 nor 21 is drawn
+    pub is-accepted : laterRefusal m psf gray (left .dots) (left .table) s ≡ 0
+
+  pub record StartPromises : Type 0 where
+    pub start-begins : (dots : List ℕ) (table : List ℤ) (s : Stats) → AtMost 255 gray
+        → startCall m psf gray dots table .reply ≡ result s
+        → Begun (startCall m psf gray dots table .buffer) s
+
+-- ---- Scans and settling, of any target and step
+pub record ScanPromises : Type 0 where
+  -- the partners of a swap scan: exactly the offsets within reach save (0,0), each once, in document 01's order
+  pub partners-are-ordered : (reach : ℕ) → reach ≤ 6 → Ordered reach
+  -- settling keeps to its rule: toggle scans until one accepts nothing, then one swap scan; if that accepted something,
+  -- again
+  pub convergence-keeps-to-rule : (t : Target) (reach : ℕ) → 0 < t .width → (p : Reference) (n : ℕ)
+      → convergeFrom t reach p n ≡ turn t reach (convergeFrom t reach) p n
+  -- and nothing else does
+  pub nothing-else-keeps-to-rule : (t : Target) (reach : ℕ) → 0 < t .width → (f : Reference → ℕ → Convergence)
+      → ((p : Reference) (n : ℕ) → Halftone t (p .dots) → f p n ≡ turn t reach f p n)
+      → (p : Reference) (n : ℕ) → Halftone t (p .dots)
+      → f p n ≡ convergeFrom t reach p n
+
+-- ---- Lists of calls: demand 3
+module _ (m : Measures) (psf gray : List ℕ) where
+  -- what a settling answers and leaves, the reference before it being this
+  pub record ComesToRest (before : Reference) (o : Outcome Result Buffers) : Type 0 where
+    -- it is not refused
+    pub answer : ConvergeResult
+    pub is-answered : o .reply ≡ result (rested answer)
+    -- it ends at rest: no toggle lowers E, no swap within reach lowers E, twice the table is at most 255 × P under
+    -- every dot and at least -255 × P under every blank
+    pub is-at-rest : Rest (targetFor m psf gray) (m .reach) (o .buffer .dots) (o .buffer .table)
+    -- its scans are at most 2 × its accepted changes + 2
+    pub scans-are-few : (let after = referenceCall m psf gray before convergence .after in
+        answer .scans ≤ 2 * (acceptedBy after - acceptedBy before) + 2)
+
+  -- what holds after a list of calls, from the dots, table and ledger of a start whose dots are `first`
+  module _ (first : List ℕ) (begun : Held) (l : List Call) where
+    abbrev answers : List (Reply Result)
+    answers = run m psf gray begun l .0
+
+    abbrev left : Held
+    left = run m psf gray begun l .1
+
+    -- the plain plate's answers, and what it holds
+    abbrev referenceAnswers : List (Reply Result)
+    referenceAnswers = referenceRun m psf gray (begin (targetFor m psf gray) first) l .0
+
+    abbrev reached : Reference
+    reached = referenceRun m psf gray (begin (targetFor m psf gray) first) l .1
+
+    pub record Demand3 : Type 0 where
+      -- table and E now are as worked out afresh
+      pub table-is-fresh : left .table ≡ filteredErrors (targetFor m psf gray) (left .dots)
+      pub error-is-fresh : left .stats .error ≡ squaredError (targetFor m psf gray) (left .dots)
+      -- a dot byte for each cell, 0 or 1
+      pub dots-are-bits : (length (left .dots) ≡ m .height * m .width) × AtMost 1 (left .dots)
+      -- E at the start stays that of the first dots
+      pub start-is-kept : left .stats .«start_error» ≡ squaredError (targetFor m psf gray) first
+      -- dots, ledger and every answer are those of the plain plate, which has no table
+      pub dots-are-reference : left .dots ≡ reached .dots
+      pub stats-are-reference : left .stats ≡ statsOf (targetFor m psf gray) reached
+      pub answers-are-reference : answers ≡ referenceAnswers
+      -- the only refusals are 8, 9 and 22
+      pub refusals-are-expected : All Expected answers
+      -- dot total = first + on - off
+      pub dots-are-balanced : pos (dotTotal (left .dots))
+          ≡ pos (dotTotal first) +ℤ pos (left .stats .on) -ℤ pos (left .stats .off)
+      -- the fall is at least 255 × accepted changes
+      pub fall-is-enough : (pos 255 *ℤ pos (acceptedBy reached))
+          ≤ℤ (squaredError (targetFor m psf gray) first -ℤ squaredError (targetFor m psf gray) (left .dots))
+      -- every settling in it ends at rest, within 2 × accepted + 2 scans
+      pub convergences-end-at-rest : (before rest : List Call) → l ≡ before ++ (convergence ∷ rest)
+          → ComesToRest (referenceRun m psf gray (begin (targetFor m psf gray) first) before .1)
+          (call m psf gray (run m psf gray begun before .1) convergence)
+
+  pub record ListPromises : Type 0 where
+    -- for every list of calls from every start that was not refused
+    pub demand-3 : (dots : List ℕ) (table : List ℤ) (s : Stats) → AtMost 255 gray
+        → startCall m psf gray dots table .reply ≡ result s
+        → (l : List Call)
+        → (let begun = startCall m psf gray dots table .buffer in
+        Demand3 (startDots m gray dots) (record { dots = begun .dots; table = begun .table; stats = s }) l)
+    -- handed on as left, nothing draws 20 or 21, nor 1 to 7: from whatever a later call accepts, and whatever the call
+    pub left-is-accepted : (h : Held) (c : Call) → laterRefusal m psf gray (h .dots) (h .table) (h .stats) ≡ 0
+        → (let h′ = handOn h (call m psf gray h c) in laterRefusal m psf gray (h′ .dots) (h′ .table) (h′ .stats) ≡ 0)
+
+-- ---- Refused because of the state, of any target and step: 20 and 21 are drawn exactly where it does not fit
+module _ (t : Target) (dots : List ℕ) (table : List ℤ) (s : Stats) where
+  pub record StatePromises : Type 0 where
+    pub fitting-state-is-accepted : StateFits t dots table s
+        → firstOf (badTable t dots table ∷ badStats t dots s ∷ []) ≡ 0
+    pub accepted-state-fits : length table ≡ cells t
+        → firstOf (badTable t dots table ∷ badStats t dots s ∷ []) ≡ 0
+        → StateFits t dots table s
+
+-- ---- Sheet: of these bytes, and buffers of these lengths for psf, gray and dots
+module _ (b : List ℕ) (p g d : ℕ) where
+  pub record ReadingPromises : Type 0 where
+    -- a sheet is read exactly when the bytes are its text, each number is in its field, and it fits the buffers
+    pub read-sheet-is-text : (s : Sheet) → (readSheet b p g d .refusal ≡ 0) × (readSheet b p g d .sheet ≡ s)
+        → (b ≡ sheetText s) × Valid s × (roomFor (s .measures) p g d ≡ true)
+    pub text-is-read : (s : Sheet) → (b ≡ sheetText s) × Valid s × (roomFor (s .measures) p g d ≡ true)
+        → (readSheet b p g d .refusal ≡ 0) × (readSheet b p g d .sheet ≡ s)
+    -- the reader's refusal is 0, 10, 11 or 12 and nothing else
+    pub reader-draws : let n = readSheet b p g d .refusal in (n ≡ 0) ⊎ (n ≡ 10) ⊎ (n ≡ 11) ⊎ (n ≡ 12)
+    -- 12: lines 1 and 2 were read, it stands at their end, and the buffers are too short
+    pub refusal-12-lacks-room : readSheet b p g d .refusal ≡ 12
+        → (headOf b .refusal ≡ 0)
+        × (readSheet b p g d .at ≡ headOf b .at)
+        × (roomFor (headOf b .measures) p g d ≡ false)
+    -- the bytes before the place that the reader answers begin some sheet
+    pub what-was-read-begins-a-sheet : Begins (take (readSheet b p g d .at) b)
+    -- 10: with the byte at its place they begin none, or the end comes too early
+    pub refusal-10-stops : readSheet b p g d .refusal ≡ 10 → Stops b (readSheet b p g d .at)
+
+-- a sheet that was written into an output
+module _ (m : Measures) (psf gray dots out : List ℕ) (k : ℕ) where
+  pub record WritingPromises : Type 0 where
+    -- is the text of what was handed in, with start 2, each number in its field
+    pub written-sheet-is-text : let s = writtenSheet m psf gray dots in
+        (k ≡ length (sheetText s)) × (take k (writeCall m psf gray dots out .out) ≡ sheetText s) × Valid s
+    -- and reads back as just that, into any buffers that it fits
+    pub written-sheet-reads-back : (p g d : List ℕ) → roomFor (withGiven m) (length p) (length g) (length d) ≡ true
+        → let r = readCall (take k (writeCall m psf gray dots out .out)) p g d in
+        (r .reply ≡ written (withGiven m))
+        × (r .psf ≡ sets p 0 psf)
+        × (r .gray ≡ sets g 0 gray)
+        × (r .dots ≡ sets d 0 dots)
+
+-- ---- Program
+-- what is printed of a sheet: it, with the dots of its settling, and the figures that belong to them
+module _ (input : List ℕ) (s : Sheet) where
+  abbrev pub heldAgainst : Target
+  heldAgainst = targetFor (s .measures) (s .psf) (s .gray)
+
+  pub record Printed (dots : List ℕ) (done : ConvergeResult) : Type 0 where
+    pub is-read : (input ≡ sheetText s) × Valid s
+    pub is-printed : output input
+        ≡ sheetText (writtenSheet (s .measures) (s .psf) (s .gray) dots) ++ statsText done
+    -- a sheet that can be handed in again
+    pub is-a-sheet : Valid (writtenSheet (s .measures) (s .psf) (s .gray) dots)
+    -- before: the squared error of the dots of the start
+    pub before-is-of-start : done .stats .«start_error»
+        ≡ squaredError heldAgainst (startDots (s .measures) (s .gray) (handedDots s))
+    -- after: the squared error of the dots printed
+    pub after-is-of-dots : done .stats .error ≡ squaredError heldAgainst dots
+    -- which are at rest
+    pub is-at-rest : Rest heldAgainst (s .measures .reach) dots (filteredErrors heldAgainst dots)
+
+pub record ProgramPromises (input : List ℕ) : Type 0 where
+  -- for every input it prints a sheet so, or a refusal
+  pub program-prints :
+      ((s : Sheet) × (dots : List ℕ) × (done : ConvergeResult) × Printed input s dots done)
+      ⊎ ((n : ℕ) × (o : ℕ) × (output input ≡ refusedText n o))
+
+-- ---- the C interface
+module _ (m : Measures) (psf gray : List ℕ) where
+  pub record InterfacePromises : Type 0 where
+    -- a ledger that was stored is read back as it was
+    pub stored-stats-read-back : (s : Stats) → statsIn (numbers s) ≡ s
+    -- over a slice of six numbers a start and each later call is that of document 01, refused alike
+    pub start-takes-six-numbers : (dots : List ℕ) (table stats : List ℤ) → length stats ≡ 6
+        → startOver m psf gray dots table stats ≡ startCall m psf gray dots table
+    pub calls-take-six-numbers : (h : Slices) (c : Call) → length (h .stats) ≡ 6
+        → callOver m psf gray h c ≡ call m psf gray (heldIn h) c
+    -- so a list of its calls answers and leaves what the list of calls does, and demand 3 holds of it
+    pub interface-lists-are-lists : (h : Held) (l : List Call)
+        → (let r = run m psf gray h l in runOver m psf gray (slicesOf h) l ≡ (r .0, slicesOf (r .1)))
+
+-- ---- all of them
+pub record Promises : Type 0 where
+  pub autocorrelation-promises : (r : ℕ) (psf : List ℕ) → AutocorrelationPromises r psf
+  pub error-promises : (w h r : ℕ) (psf gray dots : List ℕ) → ErrorPromises w h r psf gray dots
+  pub change-promises : (t : Target) (dots : List ℕ) → length dots ≡ cells t → ChangePromises t dots
+  pub attempt-promises : (m : Measures) (psf gray dots : List ℕ) (table : List ℤ) (s : Stats)
+      → AttemptPromises m psf gray dots table s
+  pub start-promises : (m : Measures) (psf gray : List ℕ) → StartPromises m psf gray
+  pub scan-promises : ScanPromises
+  pub list-promises : (m : Measures) (psf gray : List ℕ) → ListPromises m psf gray
+  pub state-promises : (t : Target) (dots : List ℕ) (table : List ℤ) (s : Stats) → StatePromises t dots table s
+  pub reading-promises : (b : List ℕ) (p g d : ℕ) → ReadingPromises b p g d
+  -- no two sheets have the same text
+  pub one-text-one-sheet : (s s′ : Sheet) → Valid s → Valid s′ → sheetText s ≡ sheetText s′ → s ≡ s′
+  pub writing-promises : (m : Measures) (psf gray dots out : List ℕ) (k : ℕ)
+      → writeCall m psf gray dots out .reply ≡ written k → AtMost 255 psf → AtMost 255 gray
+      → WritingPromises m psf gray dots out k
+  pub program-promises : (input : List ℕ) → ProgramPromises input
+  pub interface-promises : (m : Measures) (psf gray : List ℕ) → InterfacePromises m psf gray
+  -- the starred examples of document 01, and its worked example as the program prints it
+  pub examples-hold : Examples
+  -- the half-peak bound is one-sided: plates at rest, at every reach, break its other side
+  pub half-peak-is-one-sided : OneSided
