@@ -17,14 +17,14 @@ use Rattle.model.specs.State.{toggleRefusal, swapRefusal, LaterFits}
 use Rattle.model.specs.Change.{counted}
 use Rattle.model.specs.Reference.{Move, made, toggle, swap, Reference, reference, accept}
 use Rattle.model.specs.Reference.{Tried, accepted, declined, Performed}
-use Rattle.model.specs.Reference.{ofOn, ofOff, ofSwaps, statsOf, change, lowers, attempt, Placed}
+use Rattle.model.specs.Reference.{ofOn, ofOff, ofSwaps, statsOf, change, lowers, attempt, Legal}
 use Rattle.model.specs.Calls.{result, toggleCall, swapCall, withTable, laterCall}
 use Rattle.model.specs.Lists.{tried, latest}
 use Rattle.model.specs.Promises.{Verdict, Tries}
 use Rattle.model.proofs.Basic.{pick-cases}
 use Rattle.model.proofs.Error.{filtered-long}
 use Rattle.model.proofs.State.{below, at-least}
-use Rattle.model.proofs.Reference.{Legal, toggle-legal, swap-legal, halftone-made, accept-fits}
+use Rattle.model.proofs.Reference.{halftone-made, fits-halftone, toggle-legal, swap-legal, accept-fits}
 use Rattle.model.proofs.Later.{toggle-enters, swap-enters, fits-later}
 use Rattle.model.proofs.Calls.{was-done}
 use Rattle.model.proofs.Change.{change-least}
@@ -32,18 +32,18 @@ use Rattle.model.proofs.Change.{change-least}
 -- ---- an attempt that is not refused is legal
 module _ (m : Measures) (psf gray dots : List ℕ) (table : List ℤ) (s : Stats) where
   pub toggle-ready : (row col : ℕ) → toggleRefusal m psf gray dots table s row col ≡ 0
-      → LaterFits m psf gray dots table s × Legal (length dots) dots (toggle dots (cellAt (m .width) row col))
+      → LaterFits m psf gray dots table s × Legal (targetFor m psf gray) dots (toggle dots (cellAt (m .width) row col))
   toggle-ready row col taken =
       let (fits, r, c) = toggle-enters m psf gray dots table s row col taken in
-      (fits, toggle-legal dots (fits .plate .halftone .bits) _ (rw (fits .plate .halftone .dots-length) (cell< r c)))
+      (fits, toggle-legal (targetFor m psf gray) dots (fits-halftone (fits .plate .halftone)) _ (cell< r c))
 
   pub swap-ready : (row col row′ col′ : ℕ) → swapRefusal m psf gray dots table s row col row′ col′ ≡ 0
       → LaterFits m psf gray dots table s
-      × Legal (length dots) dots (swap dots (cellAt (m .width) row col) (cellAt (m .width) row′ col′))
+      × Legal (targetFor m psf gray) dots (swap dots (cellAt (m .width) row col) (cellAt (m .width) row′ col′))
   swap-ready row col row′ col′ taken =
       let (fits, (r, c), (r′, c′), unlike) = swap-enters m psf gray dots table s row col row′ col′ taken in
-      let long = fits .plate .halftone .dots-length in
-      (fits, swap-legal dots (fits .plate .halftone .bits) _ _ (rw long (cell< r c)) (rw long (cell< r′ c′)) unlike)
+      let halftone = fits-halftone (fits .plate .halftone) in
+      (fits, swap-legal (targetFor m psf gray) dots halftone _ _ (cell< r c) (cell< r′ c′) unlike)
 
 -- ---- the two cases
 module _ (t : Target) (p : Reference) (v : Move) where
@@ -135,7 +135,7 @@ module _ (m : Measures) (psf gray dots : List ℕ) (table : List ℤ) (s : Stats
       subst (LaterFits m psf gray dots (filteredErrors t dots)) entry-stats
       (subst (λ T. LaterFits m psf gray dots T s) (f .state .table-is) f)
 
-  module _ (v : Move) (legal : Legal (length dots) dots v) where
+  module _ (v : Move) (legal : Legal (targetFor m psf gray) dots v) where
     plate : PlateFits m psf gray (made dots (v .sets)) (length (filteredErrors t (made dots (v .sets))))
     plate =
         subst (PlateFits m psf gray (made dots (v .sets)))
@@ -154,7 +154,7 @@ module _ (m : Measures) (psf gray dots : List ℕ) (table : List ℤ) (s : Stats
           plate = plate;
           state =
               accept-fits t (f .plate .halftone .wide .0) (lit≤ tt) dots (f .plate .halftone .dots-length) table s (f .state) v
-              (subst (λ n. Legal n dots v) (f .plate .halftone .dots-length) legal) l;
+              legal l;
         }
 
     -- accepted or declined, later calls accept it again
@@ -173,7 +173,7 @@ module _ (m : Measures) (psf gray dots : List ℕ) (table : List ℤ) (s : Stats
   abbrev target : Target
   target = targetFor m psf gray
 
-  tries : (v : Move) → LaterFits m psf gray dots table s → Legal (length dots) dots v
+  tries : (v : Move) → LaterFits m psf gray dots table s → Legal target dots v
       → (let done = attempt target (reference dots s) v in Tries m psf gray dots table s v (done .answer) (withTable target (done .after .dots)))
   unfolding accept
   tries v f legal =
@@ -198,7 +198,7 @@ module _ (m : Measures) (psf gray dots : List ℕ) (table : List ℤ) (s : Stats
           attempt-cases target (reference dots s) v (λ done. Verdict m psf gray dots table s v (withTable target (done .after .dots)) (done .answer))
           (λ l. (
             refl,
-            change-least target dots v long (subst (λ n. Placed n (v .sets)) long (legal .placed)) l,
+            change-least target dots v long (legal .placed) l,
             sym (counted-is target dots s v (f .state .error-is) refl),
             refl,
           ))
@@ -206,7 +206,7 @@ module _ (m : Measures) (psf gray dots : List ℕ) (table : List ℤ) (s : Stats
 
   -- the call of an attempt that is legal once it is not refused
   by-call : (number : ℕ) (v : Move) (answer : Tried)
-      → (number ≡ 0 → LaterFits m psf gray dots table s × Legal (length dots) dots v)
+      → (number ≡ 0 → LaterFits m psf gray dots table s × Legal target dots v)
       → laterCall number target dots table (attempt target (reference dots s) v) .reply ≡ result answer
       → Tries m psf gray dots table s v answer (laterCall number target dots table (attempt target (reference dots s) v) .buffer)
   unfolding laterCall

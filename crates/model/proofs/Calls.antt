@@ -28,11 +28,17 @@ module _ {A B : Type 0} (b : B) (o : Outcome A B) where
   is-done zero e f = (refl, f)
   is-done (suc n) e f = absurd (omega arith)
 
-  -- a call that answers a value was not refused, and the value is the outcome's
+  -- a call that answers a value was not refused
+  pub was-taken : (n : ℕ) {a : A} → unless n b o .reply ≡ result a → (n ≡ 0) × (o ≡ unless n b o)
+  was-taken zero f = (refl, refl)
+  was-taken (suc n) f = absurd (subst IsResult (sym f) tt)
+
+  -- and the value is the outcome's
   pub was-done : (n : ℕ) {a v : A} → o .reply ≡ result v → unless n b o .reply ≡ result a
       → (n ≡ 0) × (v ≡ a) × (o ≡ unless n b o)
-  was-done zero {a} e f = (refl, ap (valueOr a) (sym e) ∙ ap (valueOr a) f, refl)
-  was-done (suc n) e f = absurd (subst IsResult (sym f) tt)
+  was-done n {a} e f =
+      let (taken, same) = was-taken n f in
+      (taken, ap (valueOr a) (sym e ∙ ap (λ o. o .reply) same ∙ f), same)
 
 -- the same, of a call that is lent dots and table
 module _ {A : Type 0} (dots : List ℕ) (table : List ℤ) (o : Outcome A Buffers) (n : ℕ) where

@@ -1,8 +1,8 @@
 -- Laws of one change. Storing a byte adds to the error at one cell, so the law of an edit says what any list of stores
 -- does to E and to the table; document 01's formulas for a toggle and a swap are the cases of one cell and of two.
-use mathlib.Core.Path.{_≡_, refl, sym, _∙_, ap, ap₂, subst}
+use mathlib.Core.Path.{_≡_, refl, sym, _∙_, ap, ap₂}
 use mathlib.Core.List.{List, [], _∷_}
-use Prim.Native.Nat.{ℕ, _*_, _-_, _/_, _%_, _<_}
+use Prim.Native.Nat.{ℕ, _*_, _/_, _%_, _<_}
 use native.Mathlib.Decide.{ℕ-discrete}
 use native.Mathlib.Omega.{arith}
 use lib.IntN.{ℤ, pos, negsuc, negℤ, _+ℤ_, _-ℤ_, _*ℤ_, +ℤ-idr, +ℤ-invr}
@@ -19,12 +19,13 @@ use Rattle.model.specs.Psf.{autocorrelation, peak}
 use Rattle.model.specs.Error.{Target, cells, row, column, kernel, error}
 use Rattle.model.specs.Error.{filteredError, filteredErrors, squaredError}
 use Rattle.model.specs.Window.{addWindow, HoldsKernel}
-use Rattle.model.specs.Change.{sign, flipped, toggleSum, swapSum, toggleChange, swapChange}
+use Rattle.model.specs.Change.{sign, flipped, toggleSum, byteSwapSum, swapSum}
+use Rattle.model.specs.Change.{toggleChange, byteSwapChange, swapChange}
 use Rattle.model.specs.Reference.{Setting, Move, made, toggle, swap, change, Placed}
 use Rattle.model.proofs.Basic.{tabulate-cong}
 use Rattle.model.proofs.Error.{kernel-symmetric, filtered-edit, squared-edit}
 use Rattle.model.proofs.Window.{addWindow-tabulate, gain-kernel}
-use Rattle.model.proofs.Turn.{turns, sign-is, sign-square, turned-other, toggle-sets, swap-sets}
+use Rattle.model.proofs.Turn.{sign-is, sign-square, unlike-sign, toggle-sets, toggle-made}
 
 -- ---- stores as an edit
 -- what the stores add to the dots, one after the other
@@ -33,6 +34,38 @@ units dots [] = []
 units dots (x ∷ l) =
     record { cell = x .cell; amount = pos (x .byte) -ℤ pos (getD dots (x .cell) 0) }
     ∷ units (set dots (x .cell) (x .byte)) l
+
+-- a toggle adds s(m) at m
+toggle-units : (dots : List ℕ) → AtMost 1 dots → (m : ℕ)
+    → units dots (toggle dots m .sets) ≡ record { cell = m; amount = sign dots m } ∷ []
+toggle-units dots bits m =
+    ap (units dots) (toggle-sets dots bits m)
+    ∙ ap (λ z. record { cell = m; amount = z } ∷ []) (sign-is dots bits m)
+
+-- a swap adds at each cell the other's byte less its own
+swap-units : (dots : List ℕ) (m n : ℕ) → m < length dots
+    → (let x : ℕ = getD dots m 0 in
+    let y : ℕ = getD dots n 0 in
+    units dots (swap dots m n .sets)
+    ≡ record { cell = m; amount = pos y -ℤ pos x } ∷ record { cell = n; amount = pos x -ℤ pos y } ∷ [])
+unfolding swap
+swap-units dots m n h =
+    ap (λ (z : ℕ).
+    record { cell = m; amount = pos (getD dots n 0) -ℤ pos (getD dots m 0) }
+    ∷ record { cell = n; amount = pos (getD dots m 0) -ℤ pos z }
+    ∷ []) (there (ℕ-discrete n m))
+  where
+    there : Dec (n ≡ m) → getD (set dots m (getD dots n 0)) n 0 ≡ getD dots n 0
+    there (yes e) = ap (λ k. getD (set dots m (getD dots n 0)) k 0) e ∙ getD-set-same dots m (getD dots n 0) 0 h
+    there (no e) = getD-set-other dots m n (getD dots n 0) 0 e
+
+toggle-placed : {N : ℕ} (dots : List ℕ) {m : ℕ} → m < N → Placed N (toggle dots m .sets)
+unfolding toggle
+toggle-placed dots h = (h, tt)
+
+swap-placed : {N : ℕ} (dots : List ℕ) {m n : ℕ} → m < N → n < N → Placed N (swap dots m n .sets)
+unfolding swap
+swap-placed dots h k = (h, (k, tt))
 
 -- an edit times u
 abbrev times : ℤ → List Increment → List Increment
@@ -131,7 +164,18 @@ module _ (t : Target) where
       join : (a b c : ℤ) → a +ℤ b +ℤ c ≡ a +ℤ (b +ℤ c)
       join a b c = ring! (a ∷ b ∷ c ∷ []) (search reify depth 40) refl
 
-  -- ---- what any stores add to E: step × (2 × Σ kᵢ·T(mᵢ) + step × ΣΣ kᵢ·kⱼ·c(mᵢ - mⱼ)), the dot of mᵢ gaining kᵢ
+  -- ---- what any stores add to T(q): step × Σ kᵢ·c(mᵢ - q), the dot of mᵢ gaining kᵢ
+  filtered-made : (dots : List ℕ) (l : List Setting) → length dots ≡ cells t → Placed (cells t) l → (q : ℕ)
+      → filteredError t (made dots l) q
+      ≡ filteredError t dots q
+      +ℤ pos (t .step) *ℤ sumOver (units dots l) (λ c. c .amount *ℤ kernel t (c .cell) q)
+  filtered-made dots l long placed q =
+      let u = pos (t .step) in
+      filtered-edit t dots (made dots l) (times u (units dots l)) (within (cells t) u dots l placed)
+      (error-made dots l (rw long placed)) q
+      ∙ ap (λ z. filteredError t dots q +ℤ z) (sum-times u (units dots l) (λ m. kernel t m q))
+
+  -- ---- and to E: step × (2 × Σ kᵢ·T(mᵢ) + step × ΣΣ kᵢ·kⱼ·c(mᵢ - mⱼ))
   abbrev inner : List ℕ → List Increment → ℤ
   inner dots k =
       pos 2 *ℤ sumOver k (λ c. c .amount *ℤ filteredError t dots (c .cell)) +ℤ pos (t .step) *ℤ crosswise k (kernel t)
@@ -142,7 +186,7 @@ module _ (t : Target) where
   change-is dots v long placed =
       ap (λ z. z -ℤ E)
       (squared-edit t dots (made dots (v .sets)) (times u k) (within (cells t) u dots (v .sets) placed)
-      (error-made dots (v .sets) (subst (λ n. Placed n (v .sets)) (sym long) placed))
+      (error-made dots (v .sets) (rw long placed))
       ∙ ap₂ (λ a b. E +ℤ pos 2 *ℤ a +ℤ b) (sum-times u k (filteredError t dots))
       (crosswise-is (times u k) (kernel t) ∙ crosswise-times u k (kernel t)))
       ∙ turn E A (crosswise k (kernel t))
@@ -178,18 +222,46 @@ module _ (t : Target) where
   unfolding kernel
   kernel-peak m = ap₂ (autocorrelation (t .radius) (t .psf)) (+ℤ-invr (row t m)) (+ℤ-invr (column t m))
 
+  -- ---- a swap of any two bytes, where d is the byte at n less that at m
+  pub byte-swap-change : (dots : List ℕ) (m n : ℕ) → length dots ≡ cells t → m < cells t → n < cells t
+      → change t dots (swap dots m n) ≡ byteSwapChange t dots m n
+  unfolding byteSwapSum crosswise sumOver
+  byte-swap-change dots m n long h k =
+      change-is dots (swap dots m n) long (swap-placed dots h k)
+      ∙ ap (λ l. u *ℤ inner dots l) (swap-units dots m n (rw long h))
+      ∙ ap (λ z. u *ℤ z)
+      (turn (pos (getD dots m 0)) (pos (getD dots n 0)) (filteredError t dots m) (filteredError t dots n)
+      (kernel t m m) (kernel t n n) (kernel t m n) (kernel t n m))
+      ∙ rw (kernel-peak m, kernel-peak n, kernel-symmetric t n m)
+      (twice (pos (getD dots n 0) -ℤ pos (getD dots m 0)) (filteredError t dots m) (filteredError t dots n)
+      (peak (t .radius) (t .psf)) (kernel t m n))
+    where
+      u : ℤ
+      u = pos (t .step)
+
+      twice : (d S T P c : ℤ)
+          → u *ℤ (pos 2 *ℤ (d *ℤ (S -ℤ T)) +ℤ u *ℤ (d *ℤ d *ℤ (P +ℤ P -ℤ c -ℤ c)))
+          ≡ pos 2 *ℤ u *ℤ (d *ℤ (S -ℤ T +ℤ u *ℤ d *ℤ (P -ℤ c)))
+      twice d S T P c = ring! (u ∷ d ∷ S ∷ T ∷ P ∷ c ∷ []) (search reify depth 40) refl
+
+      turn : (x y S T a b c d : ℤ)
+          → pos 2 *ℤ ((y -ℤ x) *ℤ S +ℤ ((x -ℤ y) *ℤ T +ℤ pos 0))
+          +ℤ u *ℤ ((y -ℤ x) *ℤ ((y -ℤ x) *ℤ a +ℤ ((x -ℤ y) *ℤ d +ℤ pos 0))
+          +ℤ ((x -ℤ y) *ℤ ((y -ℤ x) *ℤ c +ℤ ((x -ℤ y) *ℤ b +ℤ pos 0)) +ℤ pos 0))
+          ≡ pos 2 *ℤ ((y -ℤ x) *ℤ (S -ℤ T)) +ℤ u *ℤ ((y -ℤ x) *ℤ (y -ℤ x) *ℤ (a +ℤ b -ℤ c -ℤ d))
+      turn x y S T a b c d =
+          ring! (u ∷ x ∷ y ∷ S ∷ T ∷ a ∷ b ∷ c ∷ d ∷ []) (search reify depth 40 fits 9000) refl
+
   -- ---- document 01's formulas are the differences of the sums
   module _ (dots : List ℕ) (bits : AtMost 1 dots) (long : length dots ≡ cells t) where
     pub toggle-change : (m : ℕ) → m < cells t → change t dots (toggle dots m) ≡ toggleChange t dots m
     unfolding toggleSum crosswise sumOver
     toggle-change m h =
-        change-is dots (toggle dots m) long (subst (Placed (cells t)) (sym (toggle-sets dots bits m)) (h, tt))
-        ∙ ap (λ l. u *ℤ inner dots (units dots l)) (toggle-sets dots bits m)
-        ∙ ap (λ z. u *ℤ inner dots (record { cell = m; amount = z } ∷ [])) (sign-is dots bits m)
+        change-is dots (toggle dots m) long (toggle-placed dots h)
+        ∙ ap (λ l. u *ℤ inner dots l) (toggle-units dots bits m)
         ∙ ap (λ z. u *ℤ z) (turn (sign dots m) (filteredError t dots m) (kernel t m m))
-        ∙ ap₂ (λ a b. u *ℤ (pos 2 *ℤ sign dots m *ℤ filteredError t dots m +ℤ u *ℤ (a *ℤ b)))
-        (sign-square dots m) (kernel-peak m)
-        ∙ ap (λ z. u *ℤ (pos 2 *ℤ sign dots m *ℤ filteredError t dots m +ℤ u *ℤ z)) (one (peak (t .radius) (t .psf)))
+        ∙ rw (sign-square dots m, kernel-peak m)
+        (one (pos 2 *ℤ sign dots m *ℤ filteredError t dots m) (peak (t .radius) (t .psf)))
       where
         u : ℤ
         u = pos (t .step)
@@ -199,69 +271,94 @@ module _ (t : Target) where
             ≡ pos 2 *ℤ s *ℤ T +ℤ u *ℤ (s *ℤ s *ℤ c)
         turn s T c = ring! (u ∷ s ∷ T ∷ c ∷ []) (search reify depth 40) refl
 
-        one : (z : ℤ) → pos 1 *ℤ z ≡ z
-        one z = ring! (z ∷ []) (search reify depth 40) refl
+        one : (z P : ℤ) → u *ℤ (z +ℤ u *ℤ (pos 1 *ℤ P)) ≡ u *ℤ (z +ℤ u *ℤ P)
+        one z P = ring! (u ∷ z ∷ P ∷ []) (search reify depth 40) refl
 
-    -- where the dots of m and n differ
+    -- where the dots of m and n differ, d = s(m)
     pub swap-change : (m n : ℕ) → m < cells t → n < cells t → (getD dots m 0 ≡ getD dots n 0 → ⊥)
         → change t dots (swap dots m n) ≡ swapChange t dots m n
-    unfolding swapSum crosswise sumOver
+    unfolding byteSwapSum swapSum
     swap-change m n h k unlike =
-        let is = swap-sets dots bits m n unlike in
-        change-is dots (swap dots m n) long (subst (Placed (cells t)) (sym is) (h, (k, tt)))
-        ∙ ap (λ l. u *ℤ inner dots (units dots l)) is
-        ∙ ap₂ (λ y z. u *ℤ inner dots (record { cell = m; amount = y } ∷ record { cell = n; amount = z } ∷ []))
-        (sign-is dots bits m) there
-        ∙ ap (λ z. u *ℤ z)
-        (turn (sign dots m) (filteredError t dots m) (filteredError t dots n)
-        (kernel t m m) (kernel t n n) (kernel t m n) (kernel t n m))
-        ∙ rw (sign-square dots m, kernel-peak m, kernel-peak n, kernel-symmetric t n m)
-        (twice (sign dots m) (filteredError t dots m) (filteredError t dots n)
-        (peak (t .radius) (t .psf)) (kernel t m n))
+        byte-swap-change dots m n long h k
+        ∙ ap (λ d. byteSwapSum (t .step) P (kernel t m n) d S T) (unlike-sign dots bits m n unlike)
+        ∙ turn (sign dots m) (kernel t m n)
+        ∙ rw (sign-square dots m) (one (sign dots m) (kernel t m n))
       where
         u : ℤ
         u = pos (t .step)
 
-        turned : (a b : ℤ) → a -ℤ b ≡ negℤ (b -ℤ a)
-        turned a b = ring! (a ∷ b ∷ []) (search reify depth 40) refl
+        P : ℤ
+        P = peak (t .radius) (t .psf)
 
-        there : pos (1 - getD dots n 0) -ℤ pos (getD (set dots m (1 - getD dots m 0)) n 0) ≡ negℤ (sign dots m)
-        there =
-            let x : 1 - getD dots n 0 ≡ getD dots m 0 = omega (arith, bits .each m, bits .each n) in
-            let y : getD dots n 0 ≡ 1 - getD dots m 0 = omega (arith, bits .each m, bits .each n) in
-            let apart : n ≡ m → ⊥ = λ e. unlike (ap (λ k. getD dots k 0) (sym e)) in
-            ap₂ (λ (a b : ℕ). pos a -ℤ pos b) x (turned-other dots m n apart ∙ y)
-            ∙ turned (pos (getD dots m 0)) (pos (1 - getD dots m 0))
-            ∙ ap negℤ (sign-is dots bits m)
+        S : ℤ
+        S = filteredError t dots m
 
-        twice : (s S T P c : ℤ)
-            → u *ℤ (pos 2 *ℤ (s *ℤ (S -ℤ T)) +ℤ u *ℤ (pos 1 *ℤ (P +ℤ P -ℤ c -ℤ c)))
+        T : ℤ
+        T = filteredError t dots n
+
+        turn : (s c : ℤ)
+            → pos 2 *ℤ u *ℤ (s *ℤ (S -ℤ T +ℤ u *ℤ s *ℤ (P -ℤ c)))
+            ≡ pos 2 *ℤ u *ℤ (s *ℤ (S -ℤ T) +ℤ u *ℤ (s *ℤ s *ℤ (P -ℤ c)))
+        turn s c = ring! (u ∷ s ∷ S ∷ T ∷ P ∷ c ∷ []) (search reify depth 40) refl
+
+        one : (s c : ℤ)
+            → pos 2 *ℤ u *ℤ (s *ℤ (S -ℤ T) +ℤ u *ℤ (pos 1 *ℤ (P -ℤ c)))
             ≡ pos 2 *ℤ u *ℤ (s *ℤ (S -ℤ T) +ℤ u *ℤ (P -ℤ c))
-        twice s S T P c = ring! (u ∷ s ∷ S ∷ T ∷ P ∷ c ∷ []) (search reify depth 40) refl
-
-        turn : (s S T a b c d : ℤ)
-            → pos 2 *ℤ (s *ℤ S +ℤ (negℤ s *ℤ T +ℤ pos 0))
-            +ℤ u *ℤ (s *ℤ (s *ℤ a +ℤ (negℤ s *ℤ d +ℤ pos 0))
-            +ℤ (negℤ s *ℤ (s *ℤ c +ℤ (negℤ s *ℤ b +ℤ pos 0)) +ℤ pos 0))
-            ≡ pos 2 *ℤ (s *ℤ (S -ℤ T)) +ℤ u *ℤ (s *ℤ s *ℤ (a +ℤ b -ℤ c -ℤ d))
-        turn s S T a b c d =
-            ring! (u ∷ s ∷ S ∷ T ∷ a ∷ b ∷ c ∷ d ∷ []) (search reify depth 40 fits 9000) refl
+        one s c = ring! (u ∷ s ∷ S ∷ T ∷ P ∷ c ∷ []) (search reify depth 40) refl
 
     -- ---- the table follows: each T(q) gains step × s(m) × c(q - m)
+    pub toggle-moves-table : (m q : ℕ) → m < cells t
+        → filteredError t (made dots (toggle dots m .sets)) q
+        ≡ filteredError t dots q +ℤ pos (t .step) *ℤ sign dots m *ℤ kernel t q m
+    unfolding sumOver
+    toggle-moves-table m q h =
+        filtered-made dots (toggle dots m .sets) long (toggle-placed dots h) q
+        ∙ ap (λ l. T +ℤ u *ℤ sumOver l (λ c. c .amount *ℤ kernel t (c .cell) q)) (toggle-units dots bits m)
+        ∙ rw (kernel-symmetric t m q) (turn (sign dots m) (kernel t q m))
+      where
+        u : ℤ
+        u = pos (t .step)
+
+        T : ℤ
+        T = filteredError t dots q
+
+        turn : (s c : ℤ) → T +ℤ u *ℤ (s *ℤ c +ℤ pos 0) ≡ T +ℤ u *ℤ s *ℤ c
+        turn s c = ring! (u ∷ s ∷ T ∷ c ∷ []) (search reify depth 40) refl
+
+    -- and for a swap, whose dots differ, also step × s(n) × c(q - n)
+    pub swap-moves-table : (m n q : ℕ) → m < cells t → n < cells t → (getD dots m 0 ≡ getD dots n 0 → ⊥)
+        → filteredError t (made dots (swap dots m n .sets)) q
+        ≡ filteredError t dots q
+        +ℤ pos (t .step) *ℤ sign dots m *ℤ kernel t q m
+        +ℤ pos (t .step) *ℤ sign dots n *ℤ kernel t q n
+    unfolding sumOver
+    swap-moves-table m n q h k unlike =
+        filtered-made dots (swap dots m n .sets) long (swap-placed dots h k) q
+        ∙ ap (λ l. T +ℤ u *ℤ sumOver l (λ c. c .amount *ℤ kernel t (c .cell) q)) (swap-units dots m n (rw long h))
+        ∙ ap₂ (λ a b. T +ℤ u *ℤ (a *ℤ kernel t m q +ℤ (b *ℤ kernel t n q +ℤ pos 0)))
+        (unlike-sign dots bits m n unlike) (unlike-sign dots bits n m (λ e. unlike (sym e)))
+        ∙ rw (kernel-symmetric t m q, kernel-symmetric t n q)
+        (turn (sign dots m) (sign dots n) (kernel t q m) (kernel t q n))
+      where
+        u : ℤ
+        u = pos (t .step)
+
+        T : ℤ
+        T = filteredError t dots q
+
+        turn : (r s c d : ℤ) → T +ℤ u *ℤ (r *ℤ c +ℤ (s *ℤ d +ℤ pos 0)) ≡ T +ℤ u *ℤ r *ℤ c +ℤ u *ℤ s *ℤ d
+        turn r s c d = ring! (u ∷ r ∷ s ∷ T ∷ c ∷ d ∷ []) (search reify depth 40) refl
+
+    -- the same by a window
     pub flip-table : (c : List ℤ) → HoldsKernel (t .radius) (t .psf) c → (m : ℕ) → m < cells t
         → filteredErrors t (flipped dots m)
         ≡ addWindow (t .width) (2 * t .radius) c
         (pos (t .step) *ℤ sign dots m) (m / t .width) (m % t .width) (filteredErrors t dots)
-    unfolding filteredErrors made sumOver
+    unfolding filteredErrors
     flip-table c k m h =
         tabulate-cong (cells t) (λ q l.
-        filtered-edit t dots (flipped dots m) (record { cell = m; amount = a } ∷ []) (h, tt)
-        (error-made dots (turns dots m ∷ []) (rw long (h, tt))) q
-        ∙ ap (λ z. filteredError t dots q +ℤ z)
-        (+ℤ-idr (a *ℤ kernel t m q)
-        ∙ ap₂ (λ y z. pos (t .step) *ℤ y *ℤ z) (sign-is dots bits m) (sym (gain-kernel t c k m q))))
+        ap (λ d. filteredError t d q) (sym (toggle-made dots bits m))
+        ∙ toggle-moves-table m q h
+        ∙ ap (λ z. filteredError t dots q +ℤ pos (t .step) *ℤ sign dots m *ℤ z) (sym (gain-kernel t c k m q)))
         ∙ sym (addWindow-tabulate (t .width) (2 * t .radius) c (cells t)
         (filteredError t dots) (pos (t .step) *ℤ sign dots m) (m / t .width) (m % t .width))
-      where
-        a : ℤ
-        a = pos (t .step) *ℤ (pos (1 - getD dots m 0) -ℤ pos (getD dots m 0))

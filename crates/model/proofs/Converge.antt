@@ -11,7 +11,7 @@ use lib.IntN.{natAbs}
 use Rattle.model.specs.Basic.{pick}
 use Rattle.model.specs.Error.{Target, cells, squaredError, filteredErrors, Halftone}
 use Rattle.model.specs.Reference.{Reference}
-use Rattle.model.specs.Scan.{Rule, toggles, Sweep, sweep, Convergence, swapping, turn, convergeIn, convergeFrom}
+use Rattle.model.specs.Scan.{Rule, toggles, Sweep, sweep, Convergence, swaps, turn, convergeIn, convergeFrom}
 use Rattle.model.specs.Lists.{acceptedBy, Rest}
 use Rattle.model.proofs.Basic.{pick-cases}
 use Rattle.model.proofs.Scan.{Lawful, toggles-lawful, swaps-lawful, Keeps, sweep-keeps}
@@ -29,10 +29,10 @@ module _ (t : Target) (reach : ℕ) where
   size p = natAbs (squaredError t (p .dots))
 
   abbrev toggled : Reference → Sweep
-  toggled p = sweep t toggles p
+  toggled p = sweep t (toggles t) p
 
   abbrev swapped : Reference → Sweep
-  swapped p = sweep t (swapping t reach) p
+  swapped p = sweep t (swaps t reach) p
 
   -- a scan that accepts nothing
   same : (rule : Rule) (p : Reference) → sweep t rule p .changes ≡ 0 → sweep t rule p .after ≡ p
@@ -53,16 +53,16 @@ module _ (t : Target) (reach : ℕ) where
         }
 
     follows-toggles : (p : Reference) → (toggled p .changes ≡ 0 → ⊥) → Follows p (toggled p .after)
-    follows-toggles = follows toggles (toggles-lawful t)
+    follows-toggles = follows (toggles t) (toggles-lawful t)
 
     follows-swaps : (p : Reference) → (swapped p .changes ≡ 0 → ⊥) → Follows p (swapped p .after)
-    follows-swaps = follows (swapping t reach) (swaps-lawful t reach)
+    follows-swaps = follows (swaps t reach) (swaps-lawful t reach)
 
     -- after a toggle scan that accepted nothing
     follows-both : (p : Reference) → toggled p .changes ≡ 0 → (swapped (toggled p .after) .changes ≡ 0 → ⊥)
         → Follows p (swapped (toggled p .after) .after)
     follows-both p none some =
-        subst (λ q. Follows q (swapped (toggled p .after) .after)) (same toggles p none)
+        subst (λ q. Follows q (swapped (toggled p .after) .after)) (same (toggles t) p none)
         (follows-swaps (toggled p .after) some)
 
     -- two that agree on what follows
@@ -162,11 +162,11 @@ module _ (t : Target) (reach : ℕ) where
         where
           resting : toggled p .changes ≡ 0 → Q p n (rest (toggled p .after) n)
           resting none =
-              subst (λ a. Q p n (rest a n)) (sym (same toggles p none))
+              subst (λ a. Q p n (rest a n)) (sym (same (toggles t) p none))
               (pick-cases (Q p n) (eqb (swapped p .changes) 0)
               (λ e.
               let none′ = eqb-true (swapped p .changes) 0 e in
-              subst (λ q. Q p n (record { after = q; scans = n + 2 })) (sym (same (swapping t reach) p none′))
+              subst (λ q. Q p n (record { after = q; scans = n + 2 })) (sym (same (swaps t reach) p none′))
               (end p n none none′))
               (λ e.
               let some : swapped p .changes ≡ 0 → ⊥ = eqb-false _ _ e in
@@ -184,9 +184,9 @@ module _ (t : Target) (reach : ℕ) where
         → P (convergeFrom t reach p n .after)
     converge-keeps P keep =
         converge-ind (λ p n r. Halftone t (p .dots) → P p → P (r .after))
-        (λ p n r some ih f h. ih (follows-toggles p some .halftone f) (kept toggles (toggles-lawful t) p f h))
+        (λ p n r some ih f h. ih (follows-toggles p some .halftone f) (kept (toggles t) (toggles-lawful t) p f h))
         (λ p n r none some ih f h.
-        ih (follows-swaps p some .halftone f) (kept (swapping t reach) (swaps-lawful t reach) p f h))
+        ih (follows-swaps p some .halftone f) (kept (swaps t reach) (swaps-lawful t reach) p f h))
         (λ p n none none′ f h. h)
       where
         kept : (rule : Rule) → Lawful t rule → (p : Reference) → Halftone t (p .dots) → P p → P (sweep t rule p .after)
@@ -197,16 +197,16 @@ module _ (t : Target) (reach : ℕ) where
         → convergeFrom t reach p n .scans + 2 * acceptedBy p ≤ n + 2 * acceptedBy (convergeFrom t reach p n .after) + 2
     converge-scans =
         converge-ind (λ p n r. r .scans + 2 * acceptedBy p ≤ n + 2 * acceptedBy (r .after) + 2)
-        (λ p n r some ih. omega (arith, sweep-counts t toggles p (cells t)))
-        (λ p n r none some ih. omega (arith, sweep-counts t (swapping t reach) p (cells t)))
+        (λ p n r some ih. omega (arith, sweep-counts t (toggles t) p (cells t)))
+        (λ p n r none some ih. omega (arith, sweep-counts t (swaps t reach) p (cells t)))
         (λ p n none none′. omega arith)
 
     -- and no accepted change is forgotten
     pub converge-counts : (p : Reference) (n : ℕ) → acceptedBy p ≤ acceptedBy (convergeFrom t reach p n .after)
     converge-counts =
         converge-ind (λ p n r. acceptedBy p ≤ acceptedBy (r .after))
-        (λ p n r some ih. omega (arith, sweep-counts t toggles p (cells t)))
-        (λ p n r none some ih. omega (arith, sweep-counts t (swapping t reach) p (cells t)))
+        (λ p n r some ih. omega (arith, sweep-counts t (toggles t) p (cells t)))
+        (λ p n r none some ih. omega (arith, sweep-counts t (swaps t reach) p (cells t)))
         (λ p n none none′. omega arith)
 
     -- ---- it ends at rest
@@ -219,5 +219,5 @@ module _ (t : Target) (reach : ℕ) where
           (λ p n r some ih f. ih (follows-toggles p some .halftone f))
           (λ p n r none some ih f. ih (follows-swaps p some .halftone f))
           (λ p n none none′ f.
-          rest-by t reach wide step near (p .dots) f (sweep-still t toggles p (cells t) none .1)
-          (sweep-still t (swapping t reach) p (cells t) none′ .1))
+          rest-by t reach wide step near (p .dots) f (sweep-still t (toggles t) p (cells t) none .1)
+          (sweep-still t (swaps t reach) p (cells t) none′ .1))

@@ -1,5 +1,5 @@
--- What holds of every halftone (01: plate) that is not refused, its gray being made of bytes: how many cells it has,
--- and the size of its errors, of T and of E.
+-- What holds of every halftone (01: plate) that is not refused: how many cells it has, that E is the sum of the squares
+-- of the perceived error, and, its gray being made of bytes, the size of its errors, of T and of E.
 use mathlib.Core.List.{List, [], _∷_}
 use mathlib.Core.Path.{_≡_, _∙_}
 use Prim.Native.Nat.{ℕ, _*_, _≤_}
@@ -24,28 +24,31 @@ pub few-cells : {w h r : ℕ} {psf gray dots : List ℕ} {table : ℕ} → Halft
 few-cells f = mul-le-mul {n₂ = 256} {m₂ = 256} (f .high .1) (f .wide .1)
 
 module _ (w h r : ℕ) (psf gray dots : List ℕ) {table : ℕ}
-    (f : HalftoneFits w h r psf gray dots table) (bytes : AtMost 255 gray) where
+    (f : HalftoneFits w h r psf gray dots table) where
   abbrev target : Target
   target = targetOf w h r psf gray
 
-  pub errors-most : (n : ℕ) → natAbs (error target dots n) ≤ 255
-  errors-most n = error≤ target 255 dots n (omega (arith, f .bits .each n)) (bytes .each n)
-
-  pub filtered-most : (m : ℕ) → natAbs (filteredError target dots m) ≤ mostFiltered
-  filtered-most = filtered≤ target (f .wide .0) (f .psf-fits .square) 1024 255 (f .psf-fits .sum-high) dots errors-most
-
-  pub filtered-small : Small mostFiltered (filteredErrors target dots)
-  unfolding filteredErrors
-  filtered-small = small-tabulate mostFiltered (h * w) (filteredError target dots) (λ q l. filtered-most q)
-
+  -- whatever the gray is made of
   pub squared-least : pos 0 ≤ℤ squaredError target dots
   squared-least = squared-nonneg target (f .wide .0) dots
 
-  pub squared-most : squaredError target dots ≤ℤ pos mostSquared
-  squared-most =
-      natAbs-above (squaredError target dots) mostSquared
-      (le-trans (squared≤ target (f .wide .0) (f .psf-fits .square) 1024 255 (f .psf-fits .sum-high) dots errors-most)
-      (mul-le-mul-right (255 * mostFiltered) (few-cells f)))
+  module _ (bytes : AtMost 255 gray) where
+    pub errors-most : (n : ℕ) → natAbs (error target dots n) ≤ 255
+    errors-most n = error≤ target 255 dots n (omega (arith, f .bits .each n)) (bytes .each n)
+
+    pub filtered-most : (m : ℕ) → natAbs (filteredError target dots m) ≤ mostFiltered
+    filtered-most =
+        filtered≤ target (f .wide .0) (f .psf-fits .square) 1024 255 (f .psf-fits .sum-high) dots errors-most
+
+    pub filtered-small : Small mostFiltered (filteredErrors target dots)
+    unfolding filteredErrors
+    filtered-small = small-tabulate mostFiltered (h * w) (filteredError target dots) (λ q l. filtered-most q)
+
+    pub squared-most : squaredError target dots ≤ℤ pos mostSquared
+    squared-most =
+        natAbs-above (squaredError target dots) mostSquared
+        (le-trans (squared≤ target (f .wide .0) (f .psf-fits .square) 1024 255 (f .psf-fits .sum-high) dots errors-most)
+        (mul-le-mul-right (255 * mostFiltered) (few-cells f)))
 
 -- ---- the same, by what the calls refuse
 module _ (w h r : ℕ) (psf gray dots : List ℕ) where
@@ -64,7 +67,7 @@ module _ (w h r : ℕ) (psf gray dots : List ℕ) where
     taken-perceived = squared-perceived (targetOf w h r psf gray) (fits .wide .0) dots
 
     pub taken-nonneg : pos 0 ≤ℤ squaredError (targetOf w h r psf gray) dots
-    taken-nonneg = squared-nonneg (targetOf w h r psf gray) (fits .wide .0) dots
+    taken-nonneg = squared-least w h r psf gray dots fits
 
     pub taken-squared : AtMost 255 gray → squaredError (targetOf w h r psf gray) dots ≤ℤ pos mostSquared
     taken-squared bytes = squared-most w h r psf gray dots fits bytes

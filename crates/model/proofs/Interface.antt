@@ -1,5 +1,5 @@
 -- The C interface: over a slice of six numbers its starts and later calls are those of document 01, so its lists of
--- calls are lists of calls.
+-- calls are lists of calls; and the change of an attempt tells whether it was accepted.
 use mathlib.Core.Bool.{false}
 use mathlib.Core.List.{List, [], _∷_, _++_}
 use mathlib.Core.Path.{_≡_, refl, sym, _∙_, ap, subst}
@@ -7,20 +7,26 @@ use Prim.Native.Nat.{ℕ, zero, suc}
 use native.Mathlib.Omega.{arith}
 use borrow.Author.Tests.{eq-eqb}
 use lib.IntN.{ℤ}
+use lib.Signed.{clashℤ}
 use lib.ListN.{length, drop}
 use Rattle.model.specs.declared.Measures.{Measures}
 use Rattle.model.specs.declared.Stats.{Stats}
+use Rattle.model.specs.Error.{Target, targetFor, cellAt, filteredErrors}
 use Rattle.model.specs.Refusal.{Refusal, _when_, firstOf, startRefusals, startRefusal}
 use Rattle.model.specs.State.{Asked, noCell, toggleAsked, swapAsked, laterRefusals}
 use Rattle.model.specs.State.{laterRefusal, toggleRefusal, swapRefusal}
-use Rattle.model.specs.Reference.{accepted, declined}
-use Rattle.model.specs.Calls.{Reply, result, refused, Outcome, unless, Buffers, laterCall, startCall}
+use Rattle.model.specs.Reference.{Move, toggle, swap, Reference, reference, Tried, accepted, declined, attempt}
+use Rattle.model.specs.Calls.{Reply, result, refused, Outcome, unless, Buffers, withTable, laterCall, startCall}
 use Rattle.model.specs.Calls.{toggleCall, swapCall, toggleScanCall, swapScanCall, convergeCall}
 use Rattle.model.specs.Lists.{Call, toggleAt, swapAt, toggleScan, swapScan, convergence}
 use Rattle.model.specs.Lists.{Result, tried, swept, rested, Held, latest, outcome, handOn, call, callNext, run}
-use Rattle.model.specs.Interface.{numbers, statsIn, badMeasures, sliceRefusal, overStats, startOver}
+use Rattle.model.specs.Interface.{numbers, statsIn, badMeasures, sliceRefusal, overStats}
+use Rattle.model.specs.Interface.{startOver, toggleOver, swapOver, Told}
 use Rattle.model.specs.Interface.{Slices, slicesOf, heldIn, statsAfter, leave, callOver, runOver}
 use Rattle.model.proofs.Refusal.{first-passes, by-first}
+use Rattle.model.proofs.Calls.{was-taken, was-done}
+use Rattle.model.proofs.Later.{toggle-enters, swap-enters}
+use Rattle.model.proofs.Attempts.{attempt-cases}
 use Rattle.model.proofs.Lists.{runs-alike}
 
 -- what is refused twice alike is refused once
@@ -71,6 +77,58 @@ module _ (m : Measures) (psf gray : List ℕ) where
       go toggleScan = taken swept noCell _
       go swapScan = taken swept noCell _
       go convergence = taken rested noCell _
+
+-- ---- an attempt's change tells whether it was accepted
+attempt-is-told : (t : Target) (stats : List ℤ) (p : Reference) (v : Move)
+    → (let done = attempt t p v in
+    Told (p .dots) (filteredErrors t (p .dots)) stats (done .answer) (withTable t (done .after .dots)))
+attempt-is-told t stats p v =
+    attempt-cases t p v (λ done.
+    Told (p .dots) (filteredErrors t (p .dots)) stats (done .answer) (withTable t (done .after .dots)))
+    (λ l. record { below-is-accepted = λ _. tt; accepted-is-below = λ _. l; else-kept = λ h. clashℤ l h })
+    (λ h.
+    record {
+      below-is-accepted = λ l. clashℤ l h;
+      accepted-is-below = λ b. absurd b;
+      else-kept = λ _. (refl, refl, refl);
+    })
+
+module _ (m : Measures) (psf gray dots : List ℕ) (table stats : List ℤ) where
+  abbrev t : Target
+  t = targetFor m psf gray
+
+  -- of a call that, not refused, was handed T
+  call-is-told : (number : ℕ) (v : Move) (a : Tried) → (number ≡ 0 → table ≡ filteredErrors t dots)
+      → (let o = overStats m psf gray dots table stats
+      (laterCall number t dots table (attempt t (reference dots (statsIn stats)) v)) in
+      o .reply ≡ result a → Told dots table stats a (o .buffer))
+  unfolding overStats laterCall
+  call-is-told number v a fresh e =
+      let p = reference dots (statsIn stats) in
+      let (_, outer) = was-taken _ _ (sliceRefusal m stats) e in
+      let (taken, value, inner) = was-done _ _ number refl (ap (λ o. o .reply) outer ∙ e) in
+      subst (λ o. Told dots table stats a (o .buffer)) (inner ∙ outer)
+      (subst (λ a. Told dots table stats a (withTable t (attempt t p v .after .dots))) value
+      (subst (λ T. Told dots T stats (attempt t p v .answer) (withTable t (attempt t p v .after .dots)))
+      (sym (fresh taken)) (attempt-is-told t stats p v)))
+
+  pub toggle-is-told : (row col : ℕ) (a : Tried)
+      → (let o = toggleOver m psf gray dots table stats row col in
+      o .reply ≡ result a → Told dots table stats a (o .buffer))
+  unfolding toggleCall
+  toggle-is-told row col a =
+      call-is-told (toggleRefusal m psf gray dots table (statsIn stats) row col)
+      (toggle dots (cellAt (m .width) row col)) a
+      (λ e. toggle-enters m psf gray dots table (statsIn stats) row col e .0 .state .table-is)
+
+  pub swap-is-told : (row col row′ col′ : ℕ) (a : Tried)
+      → (let o = swapOver m psf gray dots table stats row col row′ col′ in
+      o .reply ≡ result a → Told dots table stats a (o .buffer))
+  unfolding swapCall
+  swap-is-told row col row′ col′ a =
+      call-is-told (swapRefusal m psf gray dots table (statsIn stats) row col row′ col′)
+      (swap dots (cellAt (m .width) row col) (cellAt (m .width) row′ col′)) a
+      (λ e. swap-enters m psf gray dots table (statsIn stats) row col row′ col′ e .0 .state .table-is)
 
 -- ---- lists
 pub stored-read : (s : Stats) → statsIn (numbers s) ≡ s

@@ -5,13 +5,12 @@ use mathlib.Core.List.{List, [], _∷_, List·Memᴰ as In, List·Memᴰ·head a
 use mathlib.Core.Path.{_≡_, refl, sym, _∙_, ap, ap₂, subst}
 use Prim.Native.Nat.{ℕ, zero, suc}
 use native.Mathlib.Nat.{le-refl}
-use lib.ListN.{length}
 use Rattle.model.specs.declared.Measures.{Measures}
 use Rattle.model.specs.Error.{Target, targetFor, cellAt, cells, filteredErrors, Halftone}
 use Rattle.model.specs.Refusal.{Refusal, _when_, firstOf}
 use Rattle.model.specs.State.{Asked, asks, noCell, toggleAsked, swapAsked, laterRefusals, LaterFits}
 use Rattle.model.specs.State.{laterRefusal, toggleRefusal, swapRefusal}
-use Rattle.model.specs.Reference.{Move, toggle, swap, Reference, reference, Performed, statsOf, attempt}
+use Rattle.model.specs.Reference.{Move, toggle, swap, Legal, Reference, reference, Performed, statsOf, attempt}
 use Rattle.model.specs.Scan.{Rule, toggles, swaps, scan, resultOf, converge}
 use Rattle.model.specs.Calls.{Reply, result, Outcome, unless, Buffers, laterCall}
 use Rattle.model.specs.Calls.{toggleCall, swapCall, toggleScanCall, swapScanCall, convergeCall}
@@ -21,7 +20,6 @@ use Rattle.model.specs.Lists.{runBy, Held, latest, outcome, handOn, call
 use Rattle.model.specs.Lists.{replied, asked, does, referenceCall, referenceRun, expected, Expected}
 use Rattle.model.specs.Basic.{All}
 use Rattle.model.proofs.Later.{later-draws}
-use Rattle.model.proofs.Reference.{Legal}
 use Rattle.model.proofs.Attempts.{toggle-ready, swap-ready, attempt-cases, Sound, entry-stats, entry-sound}
 use Rattle.model.proofs.Scan.{Lawful, toggles-lawful, swaps-lawful, Keeps, sweep-keeps}
 use Rattle.model.proofs.Scan.{sound-halftone, sound-kept}
@@ -105,9 +103,9 @@ module _ (m : Measures) (psf gray : List ℕ) where
         let v : Move = swap (p .dots) (cellAt (m .width) row col) (cellAt (m .width) row′ col′) in
         same-by t p tried (attempt t p v)
         (draws (swapAsked m (p .dots) row col row′ col′)) (attempt-counted t p v)
-    call-same toggleScan = same-by t p swept (scan t toggles p) (draws noCell) (scan-counted t p toggles)
+    call-same toggleScan = same-by t p swept (scan t (toggles t) p) (draws noCell) (scan-counted t p (toggles t))
     call-same swapScan =
-        let rule : Rule = swaps (m .width) (m .height) (m .reach) in
+        let rule : Rule = swaps t (m .reach) in
         same-by t p swept (scan t rule p) (draws noCell) (scan-counted t p rule)
     call-same convergence =
         same-by t p rested (converge t (m .reach) p) (draws noCell) (converge-counted t p (m .reach))
@@ -117,10 +115,10 @@ module _ (m : Measures) (psf gray : List ℕ) where
       halftone : Halftone t (p .dots)
       halftone = sound-halftone m psf gray p f
 
-      attempt-keeps : (v : Move) → Legal (length (p .dots)) (p .dots) v → P (attempt t p v .after)
+      attempt-keeps : (v : Move) → Legal t (p .dots) v → P (attempt t p v .after)
       attempt-keeps v legal =
           attempt-cases t p v (λ done. P (done .after))
-          (λ l. keep p v halftone (subst (λ n. Legal n (p .dots) v) (halftone .long) legal) l h) (λ l. h)
+          (λ l. keep p v halftone legal l h) (λ l. h)
 
       scan-keeps : (rule : Rule) → Lawful t rule → P (scan t rule p .after)
       unfolding scan
@@ -137,8 +135,8 @@ module _ (m : Measures) (psf gray : List ℕ) where
           attempt-keeps _
           (swap-ready m psf gray (p .dots) (filteredErrors t (p .dots)) (statsOf t p) row col row′ col′
           (draws (swapAsked m (p .dots) row col row′ col′) ∙ e) .1)
-      does-keeps toggleScan e = scan-keeps toggles (toggles-lawful t)
-      does-keeps swapScan e = scan-keeps (swaps (m .width) (m .height) (m .reach)) (swaps-lawful t (m .reach))
+      does-keeps toggleScan e = scan-keeps (toggles t) (toggles-lawful t)
+      does-keeps swapScan e = scan-keeps (swaps t (m .reach)) (swaps-lawful t (m .reach))
       does-keeps convergence e = converge-keeps t (m .reach) (f .plate .halftone .wide .0) P keep p 0 halftone h
 
       call-keeps : (c : Call) → P (referenceCall m psf gray p c .buffer)

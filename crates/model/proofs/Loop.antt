@@ -18,7 +18,7 @@ module _ (t : Target) (reach : ℕ) (s : Sweep) (m : ℕ) where
   dots = s .after .dots
 
   abbrev attempts : List Offset → List Move
-  attempts l = swapsBy (t .width) (t .height) l dots m
+  attempts l = swapsBy t l dots m
 
   abbrev pub left : ℕ → Sweep
   left j = tryEach t s (attempts (drop j (offsets reach)))
@@ -38,15 +38,15 @@ module _ (t : Target) (reach : ℕ) (s : Sweep) (m : ℕ) where
     abbrev others : List Move
     others = attempts (drop (suc j) (offsets reach))
 
-    next : left j ≡ tryEach t s (pick (suits (t .width) (t .height) dots m offset) (move ∷ others) others)
+    next : left j ≡ tryEach t s (pick (suits t dots m offset) (move ∷ others) others)
     unfolding swapsBy
     next = ap (λ l. tryEach t s (attempts l)) (drop-cons (offsets reach) j (biased 6 6) h)
 
     -- it is passed over
-    pub pass-unsuited : suits (t .width) (t .height) dots m offset ≡ false → left j ≡ left (suc j)
+    pub pass-unsuited : suits t dots m offset ≡ false → left j ≡ left (suc j)
     pass-unsuited e = next ∙ ap (λ b. tryEach t s (pick b (move ∷ others) others)) e
 
-    module _ (e : suits (t .width) (t .height) dots m offset ≡ true) where
+    module _ (e : suits t dots m offset ≡ true) where
       tried : left j ≡ pick (lowers t dots move) (more s move) (left (suc j))
       unfolding tryEach
       tried = next ∙ ap (λ b. tryEach t s (pick b (move ∷ others) others)) e

@@ -1,6 +1,5 @@
--- Laws of the reference's changes. A legal change sets cells of the plate to 0 or 1 and keeps the dot total in step
--- with the counts; toggles, and swaps of unlike dots, are legal. Where one lowers E and is accepted, the state fits
--- again.
+-- Laws of the reference's changes: toggles, and swaps of unlike dots, are legal; a plate that fits fits after a legal
+-- change; and where one lowers E and is accepted, the state fits again.
 use mathlib.Core.Path.{_≡_, refl, sym, _∙_, ap, subst}
 use mathlib.Core.List.{List, [], _∷_}
 use Prim.Native.Nat.{ℕ, zero, suc, _+_, _*_, _-_, _^_, _≤_, _<_}
@@ -12,16 +11,17 @@ use lib.IntN.{ℤ, pos, negℤ, _+ℤ_, _-ℤ_, _*ℤ_}
 use lib.Signed.{_≤ℤ_, _<ℤ_}
 use lib.ListN.{length, getD, set, length-set}
 use lib.Seq.{getD-set-same, getD-set-other}
-use Rattle.algebra.proofs.Solver.{reify}
-use Rattle.algebra.proofs.Order.{ordℤ, read≤, show≤, read≡, show≡}
+use Rattle.algebra.proofs.Solver.{ring!, reify}
+use Rattle.algebra.proofs.Order.{ordℤ, read≤, show≤, show≡}
 use Rattle.model.specs.declared.Stats.{Stats}
-use Rattle.model.specs.Basic.{pick, AtMost}
+use Rattle.model.specs.Basic.{pick, AtMost, All}
 use Rattle.model.specs.Psf.{total}
-use Rattle.model.specs.Error.{Target, cells, filteredErrors, squaredError, mostSquared}
+use Rattle.model.specs.Error.{Target, targetOf, cells, filteredErrors, squaredError, mostSquared, Halftone}
 use Rattle.model.specs.Refusal.{HalftoneFits}
 use Rattle.model.specs.State.{dotTotal, changes, StateFits}
 use Rattle.model.specs.Change.{flipped}
-use Rattle.model.specs.Reference.{Count, onCount, offCount, swapCount, ofOn, ofOff, ofSwaps, Placed}
+use Rattle.model.specs.Reference.{Count, onCount, offCount, swapCount, ofOn, ofOff, ofSwaps, netOf}
+use Rattle.model.specs.Reference.{Placed, Legal}
 use Rattle.model.specs.Reference.{Setting, Move, made, toggle, swap, reference, accept, statsOf, change}
 use Rattle.model.proofs.Error.{squared-nonneg}
 use Rattle.model.proofs.Turn.{two, toggle-sets, toggle-made}
@@ -42,23 +42,13 @@ bits-set dots m x h k bits = record { each = λ n. go n (ℕ-discrete n m) }
     go n (no e) = rw (getD-set-other dots m n x 0 e) (bits .each n)
 
 -- ---- a legal change
--- every byte of the list is 0 or 1
-abbrev Bits : List Setting → Type 0
-Bits [] = Unit {0}
-Bits (x ∷ l) = (x .byte ≤ 1) × Bits l
-
-pub record Legal (N : ℕ) (dots : List ℕ) (v : Move) : Type 0 where
-  pub placed : Placed N (v .sets)
-  pub bits : Bits (v .sets)
-  pub balance : dotTotal (made dots (v .sets)) + ofOff (v .raises) ≡ dotTotal dots + ofOn (v .raises)
-
 pub made-long : (dots : List ℕ) (l : List Setting) → length (made dots l) ≡ length dots
 unfolding made
 made-long dots [] = refl
 made-long dots (x ∷ l) = made-long (set dots (x .cell) (x .byte)) l ∙ length-set dots (x .cell) (x .byte)
 
-pub made-bits : (dots : List ℕ) (l : List Setting) → Placed (length dots) l → Bits l → AtMost 1 dots
-    → AtMost 1 (made dots l)
+pub made-bits : (dots : List ℕ) (l : List Setting) → Placed (length dots) l → All (λ x. x .byte ≤ 1) l
+    → AtMost 1 dots → AtMost 1 (made dots l)
 unfolding made
 made-bits dots [] h k bits = bits
 made-bits dots (x ∷ l) h k bits =
@@ -67,7 +57,7 @@ made-bits dots (x ∷ l) h k bits =
 
 -- so a plate that fits fits after it
 pub halftone-made : {w h r : ℕ} {psf gray : List ℕ} {n : ℕ} (dots : List ℕ) (l : List Setting)
-    → HalftoneFits w h r psf gray dots n → Placed (length dots) l → Bits l
+    → HalftoneFits w h r psf gray dots n → Placed (h * w) l → All (λ x. x .byte ≤ 1) l
     → HalftoneFits w h r psf gray (made dots l) n
 halftone-made dots l f placed bits =
     record {
@@ -77,47 +67,58 @@ halftone-made dots l f placed bits =
       gray-length = f .gray-length;
       dots-length = made-long dots l ∙ f .dots-length;
       table-length = f .table-length;
-      bits = made-bits dots l placed bits (f .bits);
+      bits = made-bits dots l (rw (f .dots-length) placed) bits (f .bits);
     }
 
-module _ (dots : List ℕ) (bits : AtMost 1 dots) where
-  pub toggle-legal : (m : ℕ) → m < length dots → Legal (length dots) dots (toggle dots m)
+-- dots that fit are dots for the target
+pub fits-halftone : {w h r : ℕ} {psf gray dots : List ℕ} {n : ℕ} → HalftoneFits w h r psf gray dots n
+    → Halftone (targetOf w h r psf gray) dots
+fits-halftone f = record { long = f .dots-length; bits = f .bits }
+
+module _ (t : Target) (dots : List ℕ) (f : Halftone t dots) where
+  pub toggle-legal : (m : ℕ) → m < cells t → Legal t dots (toggle dots m)
   unfolding toggle made
   toggle-legal m h =
-      let is = sym (toggle-sets dots bits m) in
+      let is = sym (toggle-sets dots (f .bits) m) in
       record {
-        placed = subst (Placed (length dots)) is (h, tt);
-        bits = subst Bits is (omega arith, tt);
+        placed = (h, tt);
+        apart = (tt, tt);
+        another = subst (All (λ x. getD dots (x .cell) 0 ≡ x .byte → ⊥)) is (λ e. absurd (omega arith), tt);
+        bits = subst (All (λ x. x .byte ≤ 1)) is (omega arith, tt);
         balance =
-            rw (toggle-made dots bits m)
-            (go (getD dots m 0) (bits .each m) (total-set dots m (1 - getD dots m 0) h));
+            rw (toggle-made dots (f .bits) m)
+            (go (getD dots m 0) (f .bits .each m) (total-set dots m (1 - getD dots m 0) (rw (f .long) h)));
       }
     where
       after : ℕ
       after = total (flipped dots m)
 
       go : (x : ℕ) → x ≤ 1 → after + x ≡ total dots + (1 - x)
-          → after + ofOff (pick (eqb x 0) onCount offCount) ≡ total dots + ofOn (pick (eqb x 0) onCount offCount)
-      go zero k e = e
-      go (suc zero) k e = e
+          → pos after ≡ pos (total dots) +ℤ netOf (pick (eqb x 0) onCount offCount)
+      go zero k e = ap pos (omega (arith, e))
+      go (suc zero) k e = show≡ (pos after ∷ pos (total dots) ∷ []) (search reify depth 40) (omega (arith, e))
       go (suc (suc x)) k e = absurd (two x k)
 
-  pub swap-legal : (m n : ℕ) → m < length dots → n < length dots → (getD dots m 0 ≡ getD dots n 0 → ⊥)
-      → Legal (length dots) dots (swap dots m n)
+  pub swap-legal : (m n : ℕ) → m < cells t → n < cells t → (getD dots m 0 ≡ getD dots n 0 → ⊥)
+      → Legal t dots (swap dots m n)
   unfolding swap made
   swap-legal m n h k unlike =
       let x : ℕ = getD dots m 0 in
       let y : ℕ = getD dots n 0 in
+      let apart : m ≡ n → ⊥ = λ e. unlike (ap (λ k. getD dots k 0) e) in
       record {
         placed = (h, (k, tt));
-        bits = (bits .each n, (bits .each m, tt));
+        apart = ((apart, tt), (tt, tt));
+        another = (unlike, (λ e. unlike (sym e), tt));
+        bits = (f .bits .each n, (f .bits .each m, tt));
         balance =
-            omega (
+            ap pos
+            (omega (
               arith,
-              total-set (set dots m y) n x (rw (length-set dots m y) k),
-              getD-set-other dots m n y 0 (λ e. unlike (ap (λ k. getD dots k 0) (sym e))),
-              total-set dots m y h,
-            );
+              total-set (set dots m y) n x (rw (length-set dots m y, f .long) k),
+              getD-set-other dots m n y 0 (λ e. apart (sym e)),
+              total-set dots m y (rw (f .long) h),
+            ));
       }
 
 -- ---- an accepted change: exactly one count rises by 1
@@ -125,6 +126,13 @@ pub counts : (k : Count) (a b c : ℕ) → a + ofOn k + (b + ofOff k) + (c + ofS
 counts onCount a b c = omega arith
 counts offCount a b c = omega arith
 counts swapCount a b c = omega arith
+
+-- the dots that the ledger tells follow those on the plate
+net : (k : Count) (d : ℤ) (a b : ℕ)
+    → d +ℤ pos a -ℤ pos b +ℤ netOf k ≡ d +ℤ pos (a + ofOn k) -ℤ pos (b + ofOff k)
+net onCount d a b = ring! (d ∷ pos a ∷ pos b ∷ []) (search reify depth 40) refl
+net offCount d a b = ring! (d ∷ pos a ∷ pos b ∷ []) (search reify depth 40) refl
+net swapCount d a b = ring! (d ∷ pos a ∷ pos b ∷ []) (search reify depth 40) refl
 
 -- E falls by the step at least, so the fall stays above the step times the accepted changes
 falls : (u n : ℕ) (z e f : ℤ) → (pos u *ℤ pos n) ≤ℤ (z -ℤ e) → (f -ℤ e) ≤ℤ negℤ (pos u)
@@ -148,7 +156,7 @@ few u n z f h k l m =
 
 module _ (t : Target) (wide : 0 < t .width) (step : 255 ≤ t .step) (dots : List ℕ) (long : length dots ≡ cells t)
     (table : List ℤ) (s : Stats) (fits : StateFits t dots table s) where
-  pub accept-fits : (v : Move) → Legal (cells t) dots v → change t dots v <ℤ pos 0
+  pub accept-fits : (v : Move) → Legal t dots v → change t dots v <ℤ pos 0
       → (let p = accept (reference dots s) v in StateFits t (p .dots) (filteredErrors t (p .dots)) (statsOf t p))
   unfolding accept statsOf change
   accept-fits v legal lower =
@@ -189,7 +197,5 @@ module _ (t : Target) (wide : 0 < t .width) (step : 255 ≤ t .step) (dots : Lis
       balanced : pos (dotTotal (made dots (v .sets)))
           ≡ pos (s .«start_dots») +ℤ pos (s .on + ofOn (v .raises)) -ℤ pos (s .off + ofOff (v .raises))
       balanced =
-          let ρ : List ℤ = pos (dotTotal dots) ∷ pos (s .«start_dots») ∷ pos (s .on) ∷ pos (s .off) ∷ [] in
-          show≡ (pos (dotTotal (made dots (v .sets))) ∷ pos (s .«start_dots») ∷ pos (s .on + ofOn (v .raises))
-          ∷ pos (s .off + ofOff (v .raises)) ∷ []) (search reify depth 40)
-          (omega (arith, legal .balance, read≡ ρ (search reify depth 40) (fits .total-is)))
+          legal .balance ∙ ap (λ z. z +ℤ netOf (v .raises)) (fits .total-is)
+          ∙ net (v .raises) (pos (s .«start_dots»)) (s .on) (s .off)

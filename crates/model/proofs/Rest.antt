@@ -30,20 +30,20 @@ use Rattle.model.proofs.Partners.{IsPartner, partners-cover}
 use Rattle.model.proofs.Scan.{Calm}
 
 -- what is known of all swaps with the partners, of one
-module _ (width height : ℕ) (dots : List ℕ) (m : ℕ) (P : Move → Type 0) where
+module _ (t : Target) (dots : List ℕ) (m : ℕ) (P : Move → Type 0) where
   abbrev those : List Offset → List Move
-  those l = swapsBy width height l dots m
+  those l = swapsBy t l dots m
 
-  of-partner : (o : Offset) (l : List Offset) → In o l → suits width height dots m o ≡ true → All P (those l)
-      → P (swap dots m (partner width m o))
+  of-partner : (o : Offset) (l : List Offset) → In o l → suits t dots m o ≡ true → All P (those l)
+      → P (swap dots m (partner (t .width) m o))
   unfolding swapsBy
   of-partner o (x ∷ l) (here q) e a =
-      subst (λ o. P (swap dots m (partner width m o))) (sym q)
-      (subst (λ b. All P (pick b (swap dots m (partner width m x) ∷ those l) (those l)))
-      (subst (λ o. suits width height dots m o ≡ true) q e) a .0)
+      subst (λ o. P (swap dots m (partner (t .width) m o))) (sym q)
+      (subst (λ b. All P (pick b (swap dots m (partner (t .width) m x) ∷ those l) (those l)))
+      (subst (λ o. suits t dots m o ≡ true) q e) a .0)
   of-partner o (x ∷ l) (there i) e a =
       of-partner o l i e
-      (pick-cases (λ k. All P k → All P (those l)) (suits width height dots m x) (λ b a. a .1) (λ b a. a) a)
+      (pick-cases (λ k. All P k → All P (those l)) (suits t dots m x) (λ b a. a .1) (λ b a. a) a)
 
 -- ---- half the peak
 -- a multiple of u that is not below 0
@@ -94,8 +94,8 @@ module _ (t : Target) (reach : ℕ) (step : 0 < t .step) (dots : List ℕ) (f : 
 
 -- ---- by the scans: if nothing that they attempt lowers E
 module _ (t : Target) (reach : ℕ) (wide : 0 < t .width) (step : 0 < t .step) (near : reach ≤ 6) (dots : List ℕ)
-    (f : Halftone t dots) (toggles-calm : (m : ℕ) → m < cells t → All (Calm t dots) (toggles dots m))
-    (swaps-calm : (m : ℕ) → m < cells t → All (Calm t dots) (swaps (t .width) (t .height) reach dots m)) where
+    (f : Halftone t dots) (toggles-calm : (m : ℕ) → m < cells t → All (Calm t dots) (toggles t dots m))
+    (swaps-calm : (m : ℕ) → m < cells t → All (Calm t dots) (swaps t reach dots m)) where
   toggle-calm : (m : ℕ) → m < cells t → Calm t dots (toggle dots m)
   unfolding toggles
   toggle-calm m h = toggles-calm m h .0
@@ -107,11 +107,11 @@ module _ (t : Target) (reach : ℕ) (wide : 0 < t .width) (step : 0 < t .step) (
       let apart : m ≡ n → ⊥ = λ e. unlike (ap (λ k. getD dots k 0) e) in
       let c : IsPartner (t .width) (t .height) reach m n
       = partners-cover (t .width) (t .height) reach m n wide near k rows columns apart in
-      let suited : suits (t .width) (t .height) dots m (c .offset) ≡ true
+      let suited : suits t dots m (c .offset) ≡ true
       = ap₂ (λ a b. a && not b) (c .lands-there)
       (ne-eqb _ _ (λ e. unlike (e ∙ ap (λ k. getD dots k 0) (c .is-there)))) in
       subst (λ k. Calm t dots (swap dots m k)) (c .is-there)
-      (of-partner (t .width) (t .height) dots m (Calm t dots) (c .offset) (offsets reach) (c .listed)
+      (of-partner t dots m (Calm t dots) (c .offset) (offsets reach) (c .listed)
       suited (swaps-calm m h))
 
   pub rest-by : Rest t reach dots (filteredErrors t dots)

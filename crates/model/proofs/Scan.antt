@@ -18,14 +18,14 @@ use Rattle.algebra.proofs.Order.{natAbs-parts, read≤, read<, show≤}
 use Rattle.model.specs.declared.Measures.{Measures}
 use Rattle.model.specs.Basic.{All}
 use Rattle.model.specs.Error.{Target, targetFor, cells, squaredError, Halftone}
-use Rattle.model.specs.Reference.{Move, toggle, swap, made, Reference, accept, statsOf, change, lowers}
+use Rattle.model.specs.Reference.{Move, swap, made, Legal, Reference, accept, statsOf, change, lowers}
 use Rattle.model.specs.Partners.{Offset, offsets, lands, partner}
 use Rattle.model.specs.Scan.{Rule, toggles, suits, swapsBy, swaps, Sweep, tryEach, sweepTo}
 use Rattle.model.specs.Lists.{acceptedBy}
 use Rattle.model.proofs.Basic.{pick-cases}
 use Rattle.model.proofs.Error.{squared-nonneg}
 use Rattle.model.proofs.State.{below, at-least}
-use Rattle.model.proofs.Reference.{Legal, toggle-legal, swap-legal, made-long, made-bits, counts}
+use Rattle.model.proofs.Reference.{made-long, made-bits, fits-halftone, toggle-legal, swap-legal, counts}
 use Rattle.model.proofs.Attempts.{Sound, accept-sound}
 use Rattle.model.proofs.Partners.{lands-on}
 
@@ -42,34 +42,31 @@ all-map h (x ∷ l) a = (h x (a .0), all-map h l (a .1))
 -- whatever the rule attempts at a cell of such dots is legal
 abbrev pub Lawful : Target → Rule → Type 0
 Lawful t rule =
-    (dots : List ℕ) → Halftone t dots → (m : ℕ) → m < cells t → All (Legal (cells t) dots) (rule dots m)
+    (dots : List ℕ) → Halftone t dots → (m : ℕ) → m < cells t → All (Legal t dots) (rule dots m)
 
 module _ (t : Target) where
-  pub toggles-lawful : Lawful t toggles
+  pub toggles-lawful : Lawful t (toggles t)
   unfolding toggles
-  toggles-lawful dots f m h =
-      (subst (λ n. Legal n dots (toggle dots m)) (f .long) (toggle-legal dots (f .bits) m (rw (f .long) h)), tt)
+  toggles-lawful dots f m h = (toggle-legal t dots f m h, tt)
 
   -- a partner lands on the plate, its dot unlike
   suits-legal : (dots : List ℕ) → Halftone t dots → (m : ℕ) → m < cells t → (o : Offset)
-      → suits (t .width) (t .height) dots m o ≡ true
-      → Legal (cells t) dots (swap dots m (partner (t .width) m o))
+      → suits t dots m o ≡ true
+      → Legal t dots (swap dots m (partner (t .width) m o))
   suits-legal dots f m h o e =
       let n : ℕ = partner (t .width) m o in
       let s = and-eq-true-iff (lands (t .width) (t .height) m o) (not (eqb (getD dots m 0) (getD dots n 0))) .0 e in
-      subst (λ k. Legal k dots (swap dots m n)) (f .long)
-      (swap-legal dots (f .bits) m n (rw (f .long) h) (rw (f .long) (lands-on (t .width) (t .height) m o (s .0)))
-      (eqb-false _ _ (not-true _ (s .1))))
+      swap-legal t dots f m n h (lands-on (t .width) (t .height) m o (s .0)) (eqb-false _ _ (not-true _ (s .1)))
 
-  swapsBy-lawful : (l : List Offset) → Lawful t (swapsBy (t .width) (t .height) l)
+  swapsBy-lawful : (l : List Offset) → Lawful t (swapsBy t l)
   unfolding swapsBy
   swapsBy-lawful [] dots f m h = tt
   swapsBy-lawful (o ∷ l) dots f m h =
-      pick-cases (All (Legal (cells t) dots)) (suits (t .width) (t .height) dots m o)
+      pick-cases (All (Legal t dots)) (suits t dots m o)
       (λ e. (suits-legal dots f m h o e, swapsBy-lawful l dots f m h))
       (λ e. swapsBy-lawful l dots f m h)
 
-  pub swaps-lawful : (reach : ℕ) → Lawful t (swaps (t .width) (t .height) reach)
+  pub swaps-lawful : (reach : ℕ) → Lawful t (swaps t reach)
   swaps-lawful reach = swapsBy-lawful (offsets reach)
 
 -- ---- what holds throughout a scan
@@ -102,10 +99,10 @@ module _ (t : Target) where
   -- ---- what each accepted change keeps
   abbrev pub Keeps : (Reference → Type 0) → Type 0
   Keeps P =
-      (p : Reference) (v : Move) → Halftone t (p .dots) → Legal (cells t) (p .dots) v → change t (p .dots) v <ℤ pos 0
+      (p : Reference) (v : Move) → Halftone t (p .dots) → Legal t (p .dots) v → change t (p .dots) v <ℤ pos 0
       → P p → P (accept p v)
 
-  halftone-kept : (p : Reference) (v : Move) → Halftone t (p .dots) → Legal (cells t) (p .dots) v
+  halftone-kept : (p : Reference) (v : Move) → Halftone t (p .dots) → Legal t (p .dots) v
       → Halftone t (accept p v .dots)
   unfolding accept
   halftone-kept p v f legal =
@@ -218,12 +215,12 @@ module _ (m : Measures) (psf gray : List ℕ) where
   target = targetFor m psf gray
 
   pub sound-halftone : (p : Reference) → Sound m psf gray p → Halftone target (p .dots)
-  sound-halftone p f = record { long = f .plate .halftone .dots-length; bits = f .plate .halftone .bits }
+  sound-halftone p f = fits-halftone (f .plate .halftone)
 
   pub sound-kept : Keeps target (Sound m psf gray)
   unfolding statsOf
   sound-kept p v f legal lower h =
-      accept-sound m psf gray (p .dots) _ (statsOf target p) h v (rw (f .long) legal) lower
+      accept-sound m psf gray (p .dots) _ (statsOf target p) h v legal lower
 
   -- later calls accept what a scan leaves
   pub sweep-later : (rule : Rule) → Lawful target rule → (p : Reference) → Sound m psf gray p → (n : ℕ)

@@ -31,7 +31,7 @@ module _ (dots : List ℕ) where
       go false = refl
 
   -- turning one dot leaves the others
-  pub turned-other : (m n : ℕ) → (n ≡ m → ⊥) → getD (flipped dots m) n 0 ≡ getD dots n 0
+  turned-other : (m n : ℕ) → (n ≡ m → ⊥) → getD (flipped dots m) n 0 ≡ getD dots n 0
   turned-other m n apart = getD-set-other dots m n (1 - getD dots m 0) 0 apart
 
   module _ (bits : AtMost 1 dots) where
@@ -44,6 +44,12 @@ module _ (dots : List ℕ) where
     pub sign-is : (m : ℕ) → pos (1 - getD dots m 0) -ℤ pos (getD dots m 0) ≡ sign dots m
     sign-is m = other (getD dots m 0) (bits .each m)
 
+    -- so is what a dot gets from an unlike one
+    pub unlike-sign : (m n : ℕ) → (getD dots m 0 ≡ getD dots n 0 → ⊥)
+        → pos (getD dots n 0) -ℤ pos (getD dots m 0) ≡ sign dots m
+    unlike-sign m n unlike =
+        ap (λ (y : ℕ). pos y -ℤ pos (getD dots m 0)) (omega (arith, bits .each m, bits .each n)) ∙ sign-is m
+
     -- a toggle turns one dot
     pub toggle-sets : (m : ℕ) → toggle dots m .sets ≡ turns dots m ∷ []
     unfolding toggle
@@ -55,7 +61,7 @@ module _ (dots : List ℕ) where
         go (suc (suc x)) h = absurd (two x h)
 
     -- a swap of unlike dots turns both
-    pub swap-sets : (m n : ℕ) → (getD dots m 0 ≡ getD dots n 0 → ⊥)
+    swap-sets : (m n : ℕ) → (getD dots m 0 ≡ getD dots n 0 → ⊥)
         → swap dots m n .sets ≡ turns dots m ∷ turns dots n ∷ []
     unfolding swap
     swap-sets m n unlike =

@@ -25,7 +25,6 @@ use Rattle.model.specs.Window.{gain, addWindow, scattered, Small, Scaled
 use Rattle.model.proofs.Basic.{length-tabulate, getD-tabulate, tabulate-each, tabulate-cong}
 use Rattle.model.proofs.Basic.{square-map}
 use Rattle.model.proofs.Psf.{psf-entry}
-use Rattle.model.proofs.Error.{kernel-symmetric}
 
 -- ---- sizes
 pub small-tabulate : (k n : ℕ) (f : ℕ → ℤ) → ((q : ℕ) → q < n → natAbs (f q) ≤ k) → Small k (tabulate n f)
@@ -100,10 +99,10 @@ module _ (W R : ℕ) (c : List ℤ) where
 
 -- ---- a window of the kernel
 module _ (t : Target) (c : List ℤ) (k : HoldsKernel (t .radius) (t .psf) c) where
-  -- the window of the cell i gains c(i - q) at q
-  pub gain-kernel : (i q : ℕ) → gain (t .width) (2 * t .radius) c (i / t .width) (i % t .width) q ≡ kernel t i q
+  -- the window of the cell i gains c(q - i) at q
+  pub gain-kernel : (i q : ℕ) → gain (t .width) (2 * t .radius) c (i / t .width) (i % t .width) q ≡ kernel t q i
   unfolding kernel
-  gain-kernel i q = k .at _ _ ∙ kernel-symmetric t q i
+  gain-kernel i q = k .at _ _
 
 -- ---- the autocorrelation: a window of the psf for each of its entries, times that entry, at its mirrored place
 module _ (r : ℕ) (psf : List ℕ) where

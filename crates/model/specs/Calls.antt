@@ -124,11 +124,11 @@ module _ (m : Measures) (psf gray : List ℕ) (p : Reference) where
 
   -- a toggle scan
   abbrev pub toggleScanned : Performed ScanResult
-  toggleScanned = scan (targetFor m psf gray) toggles p
+  toggleScanned = let t = targetFor m psf gray in scan t (toggles t) p
 
   -- a swap scan
   abbrev pub swapScanned : Performed ScanResult
-  swapScanned = scan (targetFor m psf gray) (swaps (m .width) (m .height) (m .reach)) p
+  swapScanned = let t = targetFor m psf gray in scan t (swaps t (m .reach)) p
 
   -- a settling
   abbrev pub atRest : Performed ConvergeResult

@@ -1,6 +1,6 @@
 -- One change, by document 01's formulas: what a toggle and a swap add to E, from T at the cells, the peak P and c; and
 -- on acceptance a dot turned and the ledger. That each sum is E of the changed copy less E before is a law
--- (`toggle-change`, `swap-change` of proofs/Change.antt), for every step u in place of 255.
+-- (`toggle-change`, `byte-swap-change`, `swap-change` of proofs/Change.antt), for every step u in place of 255.
 use mathlib.Core.List.{List}
 use Prim.Native.Nat.{ℕ, _+_, _*_, _-_}
 use lib.Dec.{eqb}
@@ -24,7 +24,11 @@ sign dots m = signOf (getD dots m 0)
 unfoldable pub toggleSum : (u : ℕ) (P s Tm : ℤ) → ℤ
 toggleSum u P s Tm = pos u *ℤ (pos 2 *ℤ s *ℤ Tm +ℤ pos u *ℤ P)
 
--- a swap: 2u × (s(m) × (T(m) - T(n)) + u × (P - c(m - n)))
+-- a swap of any two bytes, that at m gaining d: 2u × d × (T(m) - T(n) + u × d × (P - c(m - n)))
+unfoldable pub byteSwapSum : (u : ℕ) (P c d Tm Tn : ℤ) → ℤ
+byteSwapSum u P c d Tm Tn = pos (2 * u) *ℤ (d *ℤ (Tm -ℤ Tn +ℤ pos u *ℤ d *ℤ (P -ℤ c)))
+
+-- of unlike dots, where d is s(m): 2u × (s(m) × (T(m) - T(n)) + u × (P - c(m - n)))
 unfoldable pub swapSum : (u : ℕ) (P c s Tm Tn : ℤ) → ℤ
 swapSum u P c s Tm Tn = pos (2 * u) *ℤ (s *ℤ (Tm -ℤ Tn) +ℤ pos u *ℤ (P -ℤ c))
 
@@ -32,6 +36,12 @@ module _ (t : Target) (dots : List ℕ) where
   -- a toggle at m
   abbrev pub toggleChange : (m : ℕ) → ℤ
   toggleChange m = toggleSum (t .step) (peak (t .radius) (t .psf)) (sign dots m) (filteredError t dots m)
+
+  -- a swap of m and n, whatever their bytes
+  abbrev pub byteSwapChange : (m n : ℕ) → ℤ
+  byteSwapChange m n =
+      byteSwapSum (t .step) (peak (t .radius) (t .psf)) (kernel t m n) (pos (getD dots n 0) -ℤ pos (getD dots m 0))
+      (filteredError t dots m) (filteredError t dots n)
 
   -- a swap of m and n, whose dots differ
   abbrev pub swapChange : (m n : ℕ) → ℤ

@@ -80,7 +80,11 @@ module _ (t : Target) where
         sumFrom (negℤ (pos (t .radius))) (t .height + 2 * t .radius) (λ y.
         sumFrom (negℤ (pos (t .radius))) (t .width + 2 * t .radius) (λ x. perceivedError y x *ℤ perceivedError y x))
 
--- dots for a target (01: the dots of a plate): a byte for each cell, 0 or 1
+-- the highest dot byte
+abbrev pub topOf : Target → ℕ
+topOf t = 1
+
+-- dots for a target (01: the dots of a plate): a byte for each cell, at most the highest
 pub record Halftone (t : Target) (dots : List ℕ) : Type 0 where
   pub long : length dots ≡ cells t
-  pub bits : AtMost 1 dots
+  pub bits : AtMost (topOf t) dots

@@ -3,9 +3,11 @@
 -- that such a slice is judged like every other: 5 where its length is wrong.
 use mathlib.Core.Bool.{not}
 use mathlib.Core.List.{List, [], _∷_, _++_}
+use mathlib.Core.Path.{_≡_}
 use Prim.Native.Nat.{ℕ, _-_, _^_}
 use lib.Dec.{eqb}
 use lib.IntN.{ℤ, pos, negsuc}
+use lib.Signed.{_≤ℤ_, _<ℤ_}
 use lib.ListN.{length, getD}
 use Rattle.model.specs.declared.Measures.{Measures}
 use Rattle.model.specs.declared.Stats.{Stats}
@@ -94,7 +96,7 @@ module _ (m : Measures) (psf gray dots : List ℕ) (table stats : List ℤ) wher
   abbrev pub convergeOver : Outcome ConvergeResult Buffers
   convergeOver = overStats (convergeCall m psf gray dots table (statsIn stats))
 
--- the change of an attempt: accepted exactly when it is below 0
+-- the change of an attempt
 abbrev pub changeOf : Tried → ℤ
 changeOf (accepted s d) = d
 changeOf (declined d) = d
@@ -103,6 +105,19 @@ changeOf (declined d) = d
 abbrev pub triedNumbers : List ℤ → Tried → List ℤ
 triedNumbers l (accepted s d) = numbers s
 triedNumbers l (declined d) = l
+
+-- an attempt that was accepted
+abbrev pub IsAccepted : Tried → Type 0
+IsAccepted (accepted s d) = Unit {0}
+IsAccepted (declined d) = ⊥
+
+-- its change tells: below 0 it was accepted, and only then; else dots, table and the slice of the ledger are as they
+-- were (that every attempt tells so: `toggle-is-told`, `swap-is-told` of proofs/Interface.antt)
+pub record Told (dots : List ℕ) (table stats : List ℤ) (a : Tried) (left : Buffers) : Type 0 where
+  pub below-is-accepted : changeOf a <ℤ pos 0 → IsAccepted a
+  pub accepted-is-below : IsAccepted a → changeOf a <ℤ pos 0
+  pub else-kept : pos 0 ≤ℤ changeOf a
+      → (left .dots ≡ dots) × (left .table ≡ table) × (triedNumbers stats a ≡ stats)
 
 abbrev pub scanNumbers : ScanResult → List ℤ
 scanNumbers r = numbers (r .stats)

@@ -2,14 +2,16 @@
 -- attempt makes its change on a copy of the dots, and the copy replaces them where its E is lower.
 use mathlib.Core.Bool.{Bool}
 use mathlib.Core.List.{List, [], _∷_}
-use Prim.Native.Nat.{ℕ, _+_, _<_}
+use mathlib.Core.Path.{_≡_}
+use Prim.Native.Nat.{ℕ, _+_, _≤_, _<_}
 use lib.Dec.{eqb}
-use lib.IntN.{ℤ, pos, _-ℤ_}
+use lib.IntN.{ℤ, pos, negsuc, _+ℤ_, _-ℤ_}
 use lib.Signed.{ltZ}
 use lib.ListN.{getD, set}
 use Rattle.model.specs.declared.Stats.{Stats}
-use Rattle.model.specs.Basic.{pick}
-use Rattle.model.specs.Error.{Target, squaredError}
+use Rattle.model.specs.Basic.{pick, All}
+use Rattle.model.specs.Error.{Target, cells, squaredError, topOf}
+use Rattle.model.specs.State.{dotTotal}
 
 -- ---- a change: the count that it raises, and the cells that it sets with their new bytes
 -- toggles on, toggles off, swaps
@@ -49,6 +51,28 @@ swap dots m n =
       raises = swapCount;
       sets = record { cell = m; byte = getD dots n 0 } ∷ record { cell = n; byte = getD dots m 0 } ∷ [];
     }
+
+-- ---- a legal change of dots for a target
+-- what a change adds to the dots on the plate
+abbrev pub netOf : Count → ℤ
+netOf onCount = pos 1
+netOf offCount = negsuc 0
+netOf swapCount = pos 0
+
+-- the cells that it sets are different
+abbrev pub Apart : List Setting → Type 0
+Apart [] = Unit {0}
+Apart (x ∷ l) = All (λ y. x .cell ≡ y .cell → ⊥) l × Apart l
+
+pub record Legal (t : Target) (dots : List ℕ) (v : Move) : Type 0 where
+  -- its cells are on the plate, and different
+  pub placed : Placed (cells t) (v .sets)
+  pub apart : Apart (v .sets)
+  -- each new byte is another than the one there, and at most the highest
+  pub another : All (λ x. getD dots (x .cell) 0 ≡ x .byte → ⊥) (v .sets)
+  pub bits : All (λ x. x .byte ≤ topOf t) (v .sets)
+  -- the dots on the plate grow as its count says
+  pub balance : pos (dotTotal (made dots (v .sets))) ≡ pos (dotTotal dots) +ℤ netOf (v .raises)
 
 -- ---- what it holds
 pub record Reference : Type 0 where

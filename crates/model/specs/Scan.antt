@@ -17,19 +17,20 @@ use Rattle.model.specs.Reference.{Move, toggle, swap, Reference, referen
 abbrev pub Rule : Type 0
 Rule = List ℕ → ℕ → List Move
 
--- a toggle scan: a toggle
-unfoldable pub toggles : Rule
-toggles dots m = toggle dots m ∷ []
+module _ (t : Target) where
+  -- a toggle scan: a toggle
+  unfoldable pub toggles : Rule
+  toggles dots m = toggle dots m ∷ []
 
-module _ (width height : ℕ) where
   -- an offset off the plate or with an equal dot is passed over
   abbrev pub suits : List ℕ → ℕ → Offset → Bool
-  suits dots m o = lands width height m o && not (eqb (getD dots m 0) (getD dots (partner width m o) 0))
+  suits dots m o =
+      lands (t .width) (t .height) m o && not (eqb (getD dots m 0) (getD dots (partner (t .width) m o) 0))
 
   unfoldable pub swapsBy : List Offset → Rule
   swapsBy [] dots m = []
   swapsBy (o ∷ l) dots m =
-      pick (suits dots m o) (swap dots m (partner width m o) ∷ swapsBy l dots m) (swapsBy l dots m)
+      pick (suits dots m o) (swap dots m (partner (t .width) m o) ∷ swapsBy l dots m) (swapsBy l dots m)
 
   -- a swap scan with that reach: swaps with the partners, farthest first
   abbrev pub swaps : (reach : ℕ) → Rule
@@ -56,7 +57,7 @@ pub record Convergence : Type 0 where
 module _ (t : Target) where
   -- a partner at that offset suits, and the swap with it lowers E
   pub record Lowers (dots : List ℕ) (m : ℕ) (o : Offset) : Type 0 where
-    pub suited : suits (t .width) (t .height) dots m o ≡ true
+    pub suited : suits t dots m o ≡ true
     pub lower : lowers t dots (swap dots m (partner (t .width) m o)) ≡ true
 
   -- attempts in order, up to the first accepted
@@ -88,15 +89,12 @@ module _ (t : Target) where
   scan rule p = record { answer = resultOf (sweep rule p); after = sweep rule p .after }
 
   module _ (reach : ℕ) where
-    abbrev pub swapping : Rule
-    swapping = swaps (t .width) (t .height) reach
-
     -- toggle scans until one accepts nothing, then one swap scan; if that accepted something, again from the toggle
     -- scans: one turn of this, n scans being made, and what follows where something was accepted
     abbrev pub turn : (Reference → ℕ → Convergence) → Reference → ℕ → Convergence
     turn follow p n =
-        let a = sweep toggles p in
-        let b = sweep swapping (a .after) in
+        let a = sweep (toggles t) p in
+        let b = sweep (swaps t reach) (a .after) in
         let again = follow (a .after) (n + 1) in
         let anew = follow (b .after) (n + 2) in
         let end : Convergence = pick (eqb (b .changes) 0) (record { after = b .after; scans = n + 2 }) anew in

@@ -2,6 +2,7 @@
 // proved function and lays its answer out in numbers: the status, which is 0 or the refusal number, and behind the
 // pointers the rest. A refusal changes nothing but, of a sheet, the byte offset.
 ghost use mathlib.Core.Path.{_≡_};
+ghost use Rattle.model.specs.Basic.{AtMost};
 ghost use Rattle.model.specs.Calls.{autocorrelationCall, filteredErrorCall, squaredErrorCall};
 ghost use Rattle.model.specs.Interface.{status, after, numbers};
 ghost use Rattle.model.specs.Interface.{startOver, toggleOver, swapOver, toggleScanOver, swapScanOver, convergeOver};
@@ -92,6 +93,7 @@ pub extern "C" fn pm_start(
         × (now (dots .exit) ≡ o .buffer .dots)
         × (now (table .exit) ≡ o .buffer .table)
         × (now (stats .exit) ≡ after numbers (now (stats .entry)) (o .reply))) ⌝ }
+    ensures { λ _. ⌜ AtMost 255 (now (gray .entry)) ⌝ }
 {
     let measures = Measures {
         width: width,

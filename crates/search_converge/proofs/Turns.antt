@@ -101,7 +101,7 @@ module _ (m : Measures) (psf gray : List ℕ) where
         omega (arith, f .few, g .on-few, g .off-few, g .swaps-few)
 
     module _ {dots1 : List ℕ} {table1 : List ℤ} {a : ScanResult}
-        (made : Made toggles (reference dots s) dots1 table1 a) where
+        (made : Made (toggles t) (reference dots s) dots1 table1 a) where
       -- the toggle scan accepts something
       pub turning-again : (a .changes ≡ 0 → ⊥) → Turning p (n + 1) dots1 table1 (a .stats)
       turning-again some =
@@ -119,17 +119,17 @@ module _ (m : Measures) (psf gray : List ℕ) where
 
       -- it accepts nothing, and the swap scan follows
       module _ (none : a .changes ≡ 0) {dots2 : List ℕ} {table2 : List ℤ} {b : ScanResult}
-          (swept : Made (swaps (m .width) (m .height) (m .reach)) (reference dots1 (a .stats)) dots2 table2 b) where
+          (swept : Made (swaps t (m .reach)) (reference dots1 (a .stats)) dots2 table2 b) where
         abbrev swapped : Reference → Sweep
-        swapped = sweep t (swaps (m .width) (m .height) (m .reach))
+        swapped = sweep t (swaps t (m .reach))
 
         two : n + 1 + 1 ≡ n + 2
         two = omega arith
 
-        after-is : reference dots2 (b .stats) ≡ swapped (sweep t toggles q .after) .after
+        after-is : reference dots2 (b .stats) ≡ swapped (sweep t (toggles t) q .after) .after
         after-is = swept .after-is ∙ ap (λ x. swapped x .after) (made .after-is)
 
-        changes-are : b .changes ≡ swapped (sweep t toggles q .after) .changes
+        changes-are : b .changes ≡ swapped (sweep t (toggles t) q .after) .changes
         changes-are = swept .changes-are ∙ ap (λ x. swapped x .changes) (made .after-is)
 
         -- the swap scan accepts something

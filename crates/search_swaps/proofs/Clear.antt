@@ -66,7 +66,7 @@ module _ (w h r : ℕ) (psf gray dots : List ℕ) (n : ℕ) (f : HalftoneFits w 
   -- what a trial tests
   abbrev Passed : ℕ → ℕ → Type 0
   Passed down right =
-      suits w h dots (cellAt w row col) (biased down right)
+      suits (targetOf w h r psf gray) dots (cellAt w row col) (biased down right)
       && lowers (targetOf w h r psf gray) dots
       (swap dots (cellAt w row col) (partner w (cellAt w row col) (biased down right)))
       ≡ false
@@ -105,9 +105,9 @@ module _ (w h r : ℕ) (psf gray dots : List ℕ) (n : ℕ) (f : HalftoneFits w 
     (short : col + run ≤ w) (clear : CellsClear w dots table downs rights worths count row col run) where
   -- nothing is accepted at any cell
   pub run-still : (i : ℕ) → i < run → (s : ScanResult)
-      → visit (targetOf w h r psf gray) (swaps w h reach) dots s (cellAt w row col + i) ≡ sweepOf dots s
+      → (let t = targetOf w h r psf gray in visit t (swaps t reach) dots s (cellAt w row col + i) ≡ sweepOf dots s)
   run-still i l s =
-      subst (λ q. visit t (swaps w h reach) dots s q ≡ sweepOf dots s) (sym at)
+      subst (λ q. visit t (swaps t reach) dots s q ≡ sweepOf dots s) (sym at)
       (sym (all-failed t held dots s (cellAt w row (col + i)) fails count (le-refl _))
       ∙ swaps-over t reach dots s (cellAt w row (col + i)) count (le-of-eq (sym (held .count-is))))
     where
@@ -118,7 +118,7 @@ module _ (w h r : ℕ) (psf gray dots : List ℕ) (n : ℕ) (f : HalftoneFits w 
       at = omega arith
 
       fails : (j : ℕ) → j < count
-          → suits w h dots (cellAt w row (col + i)) (biased (getD downs j 0) (getD rights j 0))
+          → suits (targetOf w h r psf gray) dots (cellAt w row (col + i)) (biased (getD downs j 0) (getD rights j 0))
           && lowers (targetOf w h r psf gray) dots (swap dots (cellAt w row (col + i))
           (partner w (cellAt w row (col + i)) (biased (getD downs j 0) (getD rights j 0))))
           ≡ false

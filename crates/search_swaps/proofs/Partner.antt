@@ -72,18 +72,6 @@ module _ (w h row col : ℕ) (across : col < w) (down right : ℕ) where
   pub stands : lands w h m offset ≡ true → partner w m offset ≡ cellAt w (row + down - 6) (col + right - 6)
   stands e = let (top, first) = landed e .0 in partner-is w h row col across down right top first
 
-  -- it suits: it lands, and its dot is unlike
-  module _ (dots : List ℕ) (e : suits w h dots m offset ≡ true) where
-    suited : (lands w h m offset ≡ true) × (not (eqb (getD dots m 0) (getD dots (partner w m offset) 0)) ≡ true)
-    suited = and-eq-true-iff _ _ .0 e
-
-    pub suits-lands : lands w h m offset ≡ true
-    suits-lands = suited .0
-
-    pub suits-unlike : getD dots m 0 ≡ getD dots (cellAt w (row + down - 6) (col + right - 6)) 0 → ⊥
-    suits-unlike =
-        subst (λ n. getD dots m 0 ≡ getD dots n 0 → ⊥) (stands (suited .0)) (eqb-false _ _ (not-true _ (suited .1)))
-
   -- what the code is told: the cell, or the number of cells
   module _ {n : ℕ} (e : n ≡ pick (lands w h m offset) (partner w m offset) (h * w)) where
     pub partner-there : n < h * w → (lands w h m offset ≡ true) × (n ≡ partner w m offset)
@@ -99,6 +87,26 @@ module _ (w h row col : ℕ) (across : col < w) (down right : ℕ) where
         go : (b : Bool) → n ≡ pick b (partner w m offset) (h * w) → (b ≡ true → partner w m offset < h * w) → b ≡ false
         go true e below = absurd (omega (arith, below refl))
         go false e below = refl
+
+-- ---- where it suits: it lands, and its dot is unlike
+module _ (t : Target) (row col : ℕ) (across : col < t .width) (down right : ℕ) (dots : List ℕ)
+    (e : suits t dots (cellAt (t .width) row col) (biased down right) ≡ true) where
+  abbrev cell : ℕ
+  cell = cellAt (t .width) row col
+
+  suited : (lands (t .width) (t .height) cell (biased down right) ≡ true)
+      × (not (eqb (getD dots cell 0) (getD dots (partner (t .width) cell (biased down right)) 0)) ≡ true)
+  suited = and-eq-true-iff _ _ .0 e
+
+  pub suits-lands : lands (t .width) (t .height) (cellAt (t .width) row col) (biased down right) ≡ true
+  suits-lands = suited .0
+
+  pub suits-unlike : getD dots (cellAt (t .width) row col) 0
+      ≡ getD dots (cellAt (t .width) (row + down - 6) (col + right - 6)) 0
+      → ⊥
+  suits-unlike =
+      subst (λ n. getD dots cell 0 ≡ getD dots n 0 → ⊥)
+      (stands (t .width) (t .height) row col across down right (suited .0)) (eqb-false _ _ (not-true _ (suited .1)))
 
 -- ---- a trial there: the test by the table and by what the offset is worth
 and-same : (a : Bool) {b c : Bool} → (a ≡ true → b ≡ c) → a && b ≡ a && c
@@ -145,7 +153,7 @@ module _ (w h r : ℕ) (psf gray dots : List ℕ) (n : ℕ) (f : HalftoneFits w 
 
     pub trial-is : {i : ℕ} {worth : ℤ} {answer : Bool} → i ≡ p → worth ≡ worthAt r c down right
         → answer ≡ unlike i && falls i worth
-        → answer ≡ suits w h dots q (biased down right) && lowers t dots (swap dots q p)
+        → answer ≡ suits t dots q (biased down right) && lowers t dots (swap dots q p)
     trial-is u v d =
         d
         ∙ ap₂ (λ i worth. unlike i && falls i worth) (u ∙ stands w h row col across down right l) v

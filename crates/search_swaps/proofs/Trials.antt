@@ -18,7 +18,7 @@ module _ (t : Target) {reach : ℕ} {downs rights : List ℕ} {count : ℕ} (hel
     (dots : List ℕ) (r : ScanResult) (m : ℕ) where
   -- what a scan makes of the cell from the k-th offset on
   abbrev pub left : ℕ → Sweep
-  left k = visit t (swapsAfter (t .width) (t .height) reach k) dots r m
+  left k = visit t (swapsAfter t reach k) dots r m
 
   abbrev offset : ℕ → Offset
   offset k = biased (getD downs k 0) (getD rights k 0)
@@ -26,7 +26,7 @@ module _ (t : Target) {reach : ℕ} {downs rights : List ℕ} {count : ℕ} (hel
   -- what a trial tests
   abbrev Test : Bool → ℕ → Type 0
   Test b k =
-      suits (t .width) (t .height) dots m (offset k)
+      suits t dots m (offset k)
       && lowers t dots (swap dots m (partner (t .width) m (offset k)))
       ≡ b
 
@@ -36,7 +36,7 @@ module _ (t : Target) {reach : ℕ} {downs rights : List ℕ} {count : ℕ} (hel
       record { suited = suited; lower = lower }
 
   pub test-failed : (k : ℕ) → k < count → Test false k → left (k + 1) ≡ left k
-  test-failed k h e = ap left next ∙ sym (go (suits (t .width) (t .height) dots m (offset k)) refl e)
+  test-failed k h e = ap left next ∙ sym (go (suits t dots m (offset k)) refl e)
     where
       next : k + 1 ≡ suc k
       next = omega arith
@@ -48,15 +48,15 @@ module _ (t : Target) {reach : ℕ} {downs rights : List ℕ} {count : ℕ} (hel
       known : (P : Offset → Type 0) → P (offset k) → P (getD (offsets reach) k (biased 6 6))
       known P = subst P (sym (held .at k h))
 
-      go : (b : Bool) → suits (t .width) (t .height) dots m (offset k) ≡ b
+      go : (b : Bool) → suits t dots m (offset k) ≡ b
           → b && lowers t dots (swap dots m (partner (t .width) m (offset k))) ≡ false
           → left k ≡ left (suc k)
       go false s d =
           pass-unsuited t reach (sweepOf dots r) m k here
-          (known (λ o. suits (t .width) (t .height) dots m o ≡ false) s)
+          (known (λ o. suits t dots m o ≡ false) s)
       go true s d =
           pass-declined t reach (sweepOf dots r) m k here
-          (known (λ o. suits (t .width) (t .height) dots m o ≡ true) s)
+          (known (λ o. suits t dots m o ≡ true) s)
           (known (λ o. lowers t dots (swap dots m (partner (t .width) m o)) ≡ false) d)
 
   -- where every one failed, none is left to try

@@ -52,11 +52,11 @@ fn lowering(
     requires { ⌜ HoldsKernel (measures .radius) (now psf) (now c) ⌝ }
     requires { ⌜ (at .row < measures .height) × (at .col < measures .width) ⌝ }
     requires { ⌜ worth ≡ worthAt (measures .radius) (now c) down right ⌝ }
-    ensures { λ r. ⌜ r ≡ (suits (measures .width) (measures .height) (now (dots .entry))
-        (cellAt (measures .width) (at .row) (at .col)) (biased down right)
-        && lowers (targetFor measures (now (psf .entry)) (now (gray .entry))) (now (dots .entry))
-        (swap (now (dots .entry)) (cellAt (measures .width) (at .row) (at .col))
-        (partner (measures .width) (cellAt (measures .width) (at .row) (at .col)) (biased down right)))) ⌝ }
+    ensures { λ r. ⌜ (let t = targetFor measures (now (psf .entry)) (now (gray .entry)) in
+        let m = cellAt (measures .width) (at .row) (at .col) in
+        r ≡ (suits t (now (dots .entry)) m (biased down right)
+        && lowers t (now (dots .entry))
+        (swap (now (dots .entry)) m (partner (measures .width) m (biased down right))))) ⌝ }
 {
     let m = at.row * measures.width + at.col;
     let n = partner_cell(measures.width, measures.height, at, down, right);
@@ -90,11 +90,11 @@ fn clear_swaps(
     requires { ⌜ HoldsOffsets (measures .reach) (now downs) (now rights) count ⌝ }
     requires { ⌜ HoldsWorths (measures .radius) (now c) (now downs) (now rights) count (now worths) ⌝ }
     requires { ⌜ (at .row < measures .height) × (at .col < measures .width) ⌝ }
-    ensures { λ r. ⌜ (at .col + r ≤ measures .width) × ((k : ℕ) → k < r → (scan : ScanResult)
-        → visit (targetFor measures (now (psf .entry)) (now (gray .entry)))
-        (swaps (measures .width) (measures .height) (measures .reach))
-        (now (dots .entry)) scan (cellAt (measures .width) (at .row) (at .col) + k)
-        ≡ sweepOf (now (dots .entry)) scan) ⌝ }
+    ensures { λ r. ⌜ (let t = targetFor measures (now (psf .entry)) (now (gray .entry)) in
+        (at .col + r ≤ measures .width) × ((k : ℕ) → k < r → (scan : ScanResult)
+        → visit t (swaps t (measures .reach)) (now (dots .entry)) scan
+        (cellAt (measures .width) (at .row) (at .col) + k)
+        ≡ sweepOf (now (dots .entry)) scan)) ⌝ }
 {
     let m = at.row * measures.width + at.col;
     if m < tested {
@@ -142,13 +142,11 @@ fn first_trial(
     requires { ⌜ HoldsOffsets (measures .reach) (now downs) (now rights) count ⌝ }
     requires { ⌜ GridFits (measures .radius) (now c) (measures .reach) side (now grid) ⌝ }
     requires { ⌜ (at .row < measures .height) × (at .col < measures .width) ⌝ }
-    ensures { λ r. ⌜ (r ≤ count) × ((scan : ScanResult)
-        → visit (targetFor measures (now (psf .entry)) (now (gray .entry)))
-        (swapsAfter (measures .width) (measures .height) (measures .reach) r)
-        (now (dots .entry)) scan (cellAt (measures .width) (at .row) (at .col))
-        ≡ visit (targetFor measures (now (psf .entry)) (now (gray .entry)))
-        (swaps (measures .width) (measures .height) (measures .reach))
-        (now (dots .entry)) scan (cellAt (measures .width) (at .row) (at .col))) ⌝ }
+    ensures { λ r. ⌜ (let t = targetFor measures (now (psf .entry)) (now (gray .entry)) in
+        let m = cellAt (measures .width) (at .row) (at .col) in
+        (r ≤ count) × ((scan : ScanResult)
+        → visit t (swapsAfter t (measures .reach) r) (now (dots .entry)) scan m
+        ≡ visit t (swaps t (measures .reach)) (now (dots .entry)) scan m)) ⌝ }
 {
     let width = measures.width;
     let height = measures.height;
@@ -180,17 +178,15 @@ fn swap_cell(
     requires { ⌜ (found ≤ count) × (found < count → Lowers (targetFor measures (now psf) (now gray)) (now dots)
         (cellAt (measures .width) (at .row) (at .col))
         (biased (getD (now downs) found 0) (getD (now rights) found 0))) ⌝ }
-    ensures { λ r. ⌜ r ≡ resultOf (targetFor measures (now (psf .entry)) (now (gray .entry)))
-        (visit (targetFor measures (now (psf .entry)) (now (gray .entry)))
-        (swapsAfter (measures .width) (measures .height) (measures .reach) found)
-        (now (dots .entry)) scan (cellAt (measures .width) (at .row) (at .col))) ⌝ }
-    ensures { λ _. ⌜ now (dots .exit) ≡ visit (targetFor measures (now (psf .entry)) (now (gray .entry)))
-        (swapsAfter (measures .width) (measures .height) (measures .reach) found)
-        (now (dots .entry)) scan (cellAt (measures .width) (at .row) (at .col)) .after .dots ⌝ }
-    ensures { λ _. ⌜ now (table .exit) ≡ filteredErrors (targetFor measures (now (psf .entry)) (now (gray .entry)))
-        (visit (targetFor measures (now (psf .entry)) (now (gray .entry)))
-        (swapsAfter (measures .width) (measures .height) (measures .reach) found)
-        (now (dots .entry)) scan (cellAt (measures .width) (at .row) (at .col)) .after .dots) ⌝ }
+    ensures { λ r. ⌜ (let t = targetFor measures (now (psf .entry)) (now (gray .entry)) in
+        r ≡ resultOf t (visit t (swapsAfter t (measures .reach) found) (now (dots .entry)) scan
+        (cellAt (measures .width) (at .row) (at .col)))) ⌝ }
+    ensures { λ _. ⌜ (let t = targetFor measures (now (psf .entry)) (now (gray .entry)) in
+        now (dots .exit) ≡ visit t (swapsAfter t (measures .reach) found) (now (dots .entry)) scan
+        (cellAt (measures .width) (at .row) (at .col)) .after .dots) ⌝ }
+    ensures { λ _. ⌜ (let t = targetFor measures (now (psf .entry)) (now (gray .entry)) in
+        now (table .exit) ≡ filteredErrors t (visit t (swapsAfter t (measures .reach) found) (now (dots .entry)) scan
+        (cellAt (measures .width) (at .row) (at .col)) .after .dots)) ⌝ }
 {
     if count <= found {
         return scan;

@@ -50,19 +50,19 @@ module _ (m : Measures) (psf gray dots : List ℕ) (r : ScanResult) where
 
 -- ---- a toggle scan at cell n
 module _ (t : Target) (dots : List ℕ) (r : ScanResult) (n : ℕ) where
-  pub toggle-declined : lowers t dots (toggle dots n) ≡ false → visit t toggles dots r n ≡ sweepOf dots r
+  pub toggle-declined : lowers t dots (toggle dots n) ≡ false → visit t (toggles t) dots r n ≡ sweepOf dots r
   unfolding toggles tryEach
   toggle-declined e = ap (λ b. pick b (more (sweepOf dots r) (toggle dots n)) (sweepOf dots r)) e
 
   pub toggle-accepted : lowers t dots (toggle dots n) ≡ true
-      → visit t toggles dots r n ≡ more (sweepOf dots r) (toggle dots n)
+      → visit t (toggles t) dots r n ≡ more (sweepOf dots r) (toggle dots n)
   unfolding toggles tryEach
   toggle-accepted e = ap (λ b. pick b (more (sweepOf dots r) (toggle dots n)) (sweepOf dots r)) e
 
 -- ---- a swap scan at cell n, from the j-th offset on
 module _ (t : Target) (reach : ℕ) (dots : List ℕ) (r : ScanResult) (n j : ℕ) where
   abbrev visited : Sweep
-  visited = visit t (swapsAfter (t .width) (t .height) reach j) dots r n
+  visited = visit t (swapsAfter t reach j) dots r n
 
   -- none is left
   pub swaps-over : length (offsets reach) ≤ j → visited ≡ sweepOf dots r

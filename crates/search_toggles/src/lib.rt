@@ -43,14 +43,14 @@ fn toggle_cell(
     requires { ⌜ LaterFits measures (now psf) (now gray) (now dots) (now table) (scan .stats) ⌝ }
     requires { ⌜ HoldsKernel (measures .radius) (now psf) (now c) ⌝ }
     requires { ⌜ (at .row < measures .height) × (at .col < measures .width) × (scan .changes < 2 ^ 63) ⌝ }
-    ensures { λ r. ⌜ r ≡ resultOf (targetFor measures (now (psf .entry)) (now (gray .entry)))
-        (visit (targetFor measures (now (psf .entry)) (now (gray .entry))) toggles
-        (now (dots .entry)) scan (cellAt (measures .width) (at .row) (at .col))) ⌝ }
-    ensures { λ _. ⌜ now (dots .exit) ≡ visit (targetFor measures (now (psf .entry)) (now (gray .entry))) toggles
-        (now (dots .entry)) scan (cellAt (measures .width) (at .row) (at .col)) .after .dots ⌝ }
-    ensures { λ _. ⌜ now (table .exit) ≡ filteredErrors (targetFor measures (now (psf .entry)) (now (gray .entry)))
-        (visit (targetFor measures (now (psf .entry)) (now (gray .entry))) toggles
-        (now (dots .entry)) scan (cellAt (measures .width) (at .row) (at .col)) .after .dots) ⌝ }
+    ensures { λ r. ⌜ (let t = targetFor measures (now (psf .entry)) (now (gray .entry)) in
+        r ≡ resultOf t (visit t (toggles t) (now (dots .entry)) scan (cellAt (measures .width) (at .row) (at .col)))) ⌝ }
+    ensures { λ _. ⌜ (let t = targetFor measures (now (psf .entry)) (now (gray .entry)) in
+        now (dots .exit) ≡ visit t (toggles t) (now (dots .entry)) scan (cellAt (measures .width) (at .row) (at .col))
+        .after .dots) ⌝ }
+    ensures { λ _. ⌜ (let t = targetFor measures (now (psf .entry)) (now (gray .entry)) in
+        now (table .exit) ≡ filteredErrors t (visit t (toggles t) (now (dots .entry)) scan
+        (cellAt (measures .width) (at .row) (at .col)) .after .dots)) ⌝ }
 {
     let m = at.row * measures.width + at.col;
     let delta = weigh_toggle(measures, psf, gray, c, dots, table, m);

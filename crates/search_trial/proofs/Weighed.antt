@@ -37,7 +37,7 @@ module _ (w h r : ℕ) (psf gray dots : List ℕ) (n : ℕ) (f : HalftoneFits w 
 
   pub flipped-fits : (q : ℕ) → q < cells t → HalftoneFits w h r psf gray (flipped dots q) n
   unfolding made
-  flipped-fits q l = halftone-made dots (turns dots q ∷ []) f (rw (f .dots-length) l, tt) (omega arith, tt)
+  flipped-fits q l = halftone-made dots (turns dots q ∷ []) f (l, tt) (omega arith, tt)
 
   -- the numbers of the table are small
   pub table-small : {table : List ℤ} → table ≡ filteredErrors t dots → AtMost 255 gray → Small mostFiltered table
@@ -124,5 +124,5 @@ pub error-small : (m : Measures) (psf gray dots : List ℕ) (table : List ℤ) (
 error-small m psf gray dots table s f bytes =
     subst (λ (z : ℤ). natAbs z ≤ mostSquared) (sym (f .state .error-is))
     (natAbs-below _ mostSquared
-    (squared-least (m .width) (m .height) (m .radius) psf gray dots (f .plate .halftone) bytes)
+    (squared-least (m .width) (m .height) (m .radius) psf gray dots (f .plate .halftone))
     (squared-most (m .width) (m .height) (m .radius) psf gray dots (f .plate .halftone) bytes))

@@ -2,6 +2,7 @@
 // table, and answers a fresh ledger. A refusal changes nothing.
 ghost use mathlib.Core.Path.{_≡_};
 ghost use lib.ListN.{length};
+ghost use Rattle.model.specs.Basic.{AtMost};
 ghost use Rattle.model.specs.Error.{targetOf, filteredErrors};
 ghost use Rattle.model.specs.Refusal.{HalftoneFits};
 ghost use Rattle.model.specs.State.{freshStats};
@@ -42,7 +43,8 @@ fn begin(
     }
 }
 
-// A start of the kind that the measures name: 0 all blank, 1 by the thresholds, 2 the dots given.
+// A start of the kind that the measures name: 0 all blank, 1 by the thresholds, 2 the dots given. That gray is made of
+// bytes, which the promises ask for, is handed to the caller.
 pub fn start(
     measures: Measures,
     psf: &[u8],
@@ -56,6 +58,7 @@ pub fn start(
         (now (psf .entry)) (now (gray .entry)) (now (dots .entry)) (now (table .entry)) .buffer .dots ⌝ }
     ensures { λ r. ⌜ now (table .exit) ≡ startCall measures
         (now (psf .entry)) (now (gray .entry)) (now (dots .entry)) (now (table .entry)) .buffer .table ⌝ }
+    ensures { λ _. ⌜ AtMost 255 (now (gray .entry)) ⌝ }
 {
     let number = judge_start(measures, psf, gray, dots, table.len());
     if number != 0 {

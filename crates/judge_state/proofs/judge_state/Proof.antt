@@ -94,7 +94,7 @@ judge-ledger-requires c κs =
     let a = s k .args in (
       held (s k),
       omega (arith, c .sum .ensures, total≤ 1 (a .dots .now) (f .bits), few-cells f, f .dots-length),
-      rw (error-is k) (squared-least _ _ _ _ _ _ f (bytes k)),
+      rw (error-is k) (squared-least _ _ _ _ _ _ f),
       rw (error-is k) (squared-most _ _ _ _ _ _ f (bytes k)),
     )
 

@@ -2,10 +2,15 @@
 use mathlib.Core.Path.{refl}
 use native.Mathlib.Omega.{arith}
 use borrow.Author.Needs.{needs}
+use Rattle.model.specs.Basic.{AtMost}
 use Rattle.platemaker.proofs.Ledgers.{start-storable}
 use Rattle.platemaker.proofs.Laid.{to-lay, slice-refused, slice-taken}
 use Rattle.platemaker.proofs.pm_start.Statement.{statement}
 use Rattle.platemaker.proofs.pm_start.Tie as tie
+
+-- gray is made of bytes
+bytes : (k : tie.After-shared-slice-known2) → AtMost 255 (k .before .before .args .gray .now)
+bytes k = record { each = λ i. omega (arith, k .shared-slice-known2 .given i) }
 
 judge-slice-requires : tie.Need-judge-slice-requires
 judge-slice-requires c κs = search needs
@@ -17,7 +22,7 @@ returns : tie.Need-returns
 returns c =
     let (r, d, t, s, _)
     = slice-refused _ _ _ _ _ _ _ _ (λ _. tt {0}) (tt {0}) (c .before .judge-slice .ensures) (c .if1 .taken) in
-    (r, d, t, s)
+    ((r, d, t, s), bytes (c .before .before .before .before))
 
 start-requires : tie.Need-start-requires
 start-requires c κs = search needs
@@ -28,8 +33,7 @@ lay-start-requires c κs =
     let e = k .before .before .before in
     let j = e .before in
     to-lay _ _ _ (j .judge-slice .ensures) (e .if1 .left) (k .start .ensures .0)
-    (start-storable _ _ _ _ _
-    (record { each = λ i. omega (arith, j .before .before .before .shared-slice-known2 .given i) }))
+    (start-storable _ _ _ _ _ (k .start .ensures .1 .1 .1))
 
 same-length-2 : tie.Need-same-length-2
 same-length-2 c = search needs
@@ -45,11 +49,12 @@ returns-2 c =
     let p = c .before in
     let k = p .before .before .before .before .before in
     let e = k .before .before .before in
+    let (reply, (dots, (table, gray))) = k .start .ensures in
     let (a, b) = p .lay-start .ensures in
     let (r, d, t, s, _)
     = slice-taken _ _ _ _ _ _ _ _ (λ _. tt {0}) (tt {0}) (e .before .judge-slice .ensures) (e .if1 .left)
-    (k .start .ensures) (a, b, refl) in
-    (r, d, t, s)
+    (reply, (dots, table)) (a, b, refl) in
+    ((r, d, t, s), gray)
 
 pub pm-start-spec : {M : Type 1} → statement M
 pm-start-spec =

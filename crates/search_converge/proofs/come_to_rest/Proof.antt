@@ -2,6 +2,7 @@
 use mathlib.Core.Path.{sym, _∙_}
 use native.Mathlib.Omega.{arith}
 use lib.IntN.{natAbs}
+use Rattle.model.specs.Error.{Target, targetFor}
 use Rattle.model.specs.Reference.{reference}
 use Rattle.model.specs.Scan.{toggles, swaps}
 use Rattle.model.proofs.Scan.{toggles-lawful, swaps-lawful}
@@ -27,6 +28,9 @@ toggle-all-requires c κs =
     let l = c .before .before in
     (l .loop .inv .fits, l .before .before .before .before .pre .1)
 
+abbrev target : tie.Start Inv-loop μ-loop → Target
+target s = targetFor (s .args .measures) (s .args .psf .now) (s .args .gray .now)
+
 -- the toggle scan of a turn
 module _ (c : tie.After-toggle-all Inv-loop μ-loop) where
   abbrev l : tie.At-loop Inv-loop μ-loop
@@ -35,11 +39,11 @@ module _ (c : tie.After-toggle-all Inv-loop μ-loop) where
   abbrev s : tie.Start Inv-loop μ-loop
   s = l .before .before .before .before
 
-  toggled : Made (s .args .measures) (s .args .psf .now) (s .args .gray .now) toggles
+  toggled : Made (s .args .measures) (s .args .psf .now) (s .args .gray .now) (toggles (target s))
       (reference (l .loop .dots) (l .loop .now)) (c .toggle-all .last .1 .1 .1 .1 .0)
       (c .toggle-all .last .1 .1 .1 .1 .1 .0) (c .toggle-all .result)
   toggled =
-      made-by _ _ _ toggles (toggles-lawful _) (l .loop .dots) (l .loop .table) (l .loop .now) (l .loop .inv .fits)
+      made-by _ _ _ (toggles _) (toggles-lawful _) (l .loop .dots) (l .loop .table) (l .loop .now) (l .loop .inv .fits)
       (c .toggle-all .ensures .0) (c .toggle-all .ensures .1 .0) (c .toggle-all .ensures .1 .1)
 
 add-scans : tie.Need-add-scans Inv-loop μ-loop
@@ -61,11 +65,11 @@ module _ (c : tie.After-swap-all Inv-loop μ-loop) where
   a = first .before .before .before .before .before .before
 
   swapped : Made (s a .args .measures) (s a .args .psf .now) (s a .args .gray .now)
-      (swaps (s a .args .measures .width) (s a .args .measures .height) (s a .args .measures .reach))
+      (swaps (target (s a)) (s a .args .measures .reach))
       (reference (a .toggle-all .last .1 .1 .1 .1 .0) (a .toggle-all .result .stats))
       (c .swap-all .last .1 .1 .1 .1 .0) (c .swap-all .last .1 .1 .1 .1 .1 .0) (c .swap-all .result)
   swapped =
-      made-by _ _ _ (swaps _ _ _) (swaps-lawful _ _) (a .toggle-all .last .1 .1 .1 .1 .0)
+      made-by _ _ _ (swaps _ _) (swaps-lawful _ _) (a .toggle-all .last .1 .1 .1 .1 .0)
       (a .toggle-all .last .1 .1 .1 .1 .1 .0) (a .toggle-all .result .stats) (toggled a .fits)
       (c .swap-all .ensures .0) (c .swap-all .ensures .1 .0) (c .swap-all .ensures .1 .1)
 

@@ -33,10 +33,9 @@ either (inr b) f g = g b
 abbrev Inv-partners : tie.InvT-partners
 Inv-partners measures psf gray c downs rights worths count side grid dots table scan at tested n k₀ k =
     (k ≤ count)
-    × (visit (targetFor measures psf gray) (swapsAfter (measures .width) (measures .height) (measures .reach) k) dots
-    scan (cellAt (measures .width) (at .row) (at .col))
-    ≡ visit (targetFor measures psf gray) (swaps (measures .width) (measures .height) (measures .reach)) dots scan
-    (cellAt (measures .width) (at .row) (at .col)))
+    × (let t = targetFor measures psf gray in
+    let m = cellAt (measures .width) (at .row) (at .col) in
+    visit t (swapsAfter t (measures .reach) k) dots scan m ≡ visit t (swaps t (measures .reach)) dots scan m)
 
 abbrev μ-partners : tie.MeasureT-partners
 μ-partners measures psf gray c downs rights worths count side grid dots table scan at tested n k₀ k = count - k
@@ -44,7 +43,7 @@ abbrev μ-partners : tie.MeasureT-partners
 abbrev Inv-loop : tie.InvT-loop
 Inv-loop measures psf gray c downs rights worths count side grid dots₀ table₀ scan₀ at₀ tested₀ dots table scan at
     tested =
-    Under measures psf gray (swaps (measures .width) (measures .height) (measures .reach))
+    Under measures psf gray (swaps (targetFor measures psf gray) (measures .reach))
     (reference dots₀ (scan₀ .stats)) (cellAt (measures .width) (at .row) (at .col)) dots table scan
     × (at .col < measures .width)
     × (cellAt (measures .width) (at .row) (at .col) ≤ measures .height * measures .width)
@@ -267,15 +266,13 @@ module _ (j : tie.Joined3 Inv-partners μ-partners Inv-loop μ-loop) where
       ))
 
   -- and with it all of the cell's attempts
-  all : visit (t l3) (swapsAfter (s l3 .args .measures .width) (s l3 .args .measures .height)
-      (s l3 .args .measures .reach) (j .if3 .found)) (l3 .loop .dots) (l3 .loop .scan) (m l3)
-      ≡ visit (t l3) (swaps (s l3 .args .measures .width) (s l3 .args .measures .height)
-      (s l3 .args .measures .reach)) (l3 .loop .dots) (l3 .loop .scan) (m l3)
+  all : visit (t l3) (swapsAfter (t l3) (s l3 .args .measures .reach) (j .if3 .found)) (l3 .loop .dots) (l3 .loop .scan)
+      (m l3)
+      ≡ visit (t l3) (swaps (t l3) (s l3 .args .measures .reach)) (l3 .loop .dots) (l3 .loop .scan) (m l3)
   all =
       ap (λ n.
-      visit (t l3)
-      (swapsAfter (s l3 .args .measures .width) (s l3 .args .measures .height) (s l3 .args .measures .reach) n)
-      (l3 .loop .dots) (l3 .loop .scan) (m l3)) (ends .2)
+      visit (t l3) (swapsAfter (t l3) (s l3 .args .measures .reach) n) (l3 .loop .dots) (l3 .loop .scan) (m l3))
+      (ends .2)
       ∙ j .before .partners .inv .1
 
 swap-cell-requires : tie.Need-swap-cell-requires Inv-partners μ-partners Inv-loop μ-loop

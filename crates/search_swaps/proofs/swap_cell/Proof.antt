@@ -73,7 +73,7 @@ module _ (a : tie.Else1) where
   lower = s .pre .1 .1 .1 .1 .1 (a .if1 .left)
 
   on : lands (w s) (h s) (cellAt (w s) (row s) (col s)) (biased (down s) (right s)) ≡ true
-  on = suits-lands (w s) (h s) (row s) (col s) (here s .1) (down s) (right s) (s .args .dots .now) (lower .suited)
+  on = suits-lands (target s) (row s) (col s) (here s .1) (down s) (right s) (s .args .dots .now) (lower .suited)
 
   abbrev row2 : ℕ
   row2 = row s + down s - 6
@@ -87,8 +87,7 @@ module _ (a : tie.Else1) where
   unlike : getD (s .args .dots .now) (cellAt (w s) (row s) (col s)) 0
       ≡ getD (s .args .dots .now) (cellAt (w s) row2 col2) 0
       → ⊥
-  unlike =
-      suits-unlike (w s) (h s) (row s) (col s) (here s .1) (down s) (right s) (s .args .dots .now) (lower .suited)
+  unlike = suits-unlike (target s) (row s) (col s) (here s .1) (down s) (right s) (s .args .dots .now) (lower .suited)
 
 shared-slice-read-row2 : tie.Need-shared-slice-read-row2
 shared-slice-read-row2 c = search needs

@@ -21,7 +21,7 @@ use Rattle.search_toggles.proofs.toggle_all.Tie as tie
 abbrev Inv-loop : tie.InvT-loop
 Inv-loop measures psf gray c dots₀ table₀ scan₀ cell₀ tested₀ dots table scan cell tested =
     let n = cellAt (measures .width) (cell .row) (cell .col) in
-    Under measures psf gray toggles (reference dots₀ (scan₀ .stats)) n dots table scan
+    Under measures psf gray (toggles (targetFor measures psf gray)) (reference dots₀ (scan₀ .stats)) n dots table scan
     × (cell .col < measures .width)
     × (n ≤ measures .height * measures .width)
 
@@ -32,7 +32,7 @@ abbrev μ-loop : tie.MeasureT-loop
 loop-holds : tie.Need-loop-holds Inv-loop μ-loop
 loop-holds c =
     let s = c .before .before .before in (
-      under-at (under-start _ _ _ _ _ _ toggles (s .pre .0)) (omega arith),
+      under-at (under-start _ _ _ _ _ _ (toggles _) (s .pre .0)) (omega arith),
       s .pre .0 .plate .halftone .wide .0,
       omega arith,
     )

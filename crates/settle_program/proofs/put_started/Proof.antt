@@ -38,7 +38,7 @@ returns c =
     started-put (a .m) (a .psf .now) (a .gray .now) (a .dots .now) (a .table .now)
     40960 (omega arith) (a .out .now) (p .put-converged .result) (p .put-converged .last .1 .1 .1 .1 .1 .1 .0)
     _ _ _ _ (e .start .ensures .0) (k .answer .given .1)
-    (e .start .ensures .1 .0) (e .start .ensures .1 .1) (p .put-converged .ensures)
+    (e .start .ensures .1 .0) (e .start .ensures .1 .1 .0) (p .put-converged .ensures)
 
 same-length-4 : tie.Need-same-length-4
 same-length-4 c = search needs
@@ -58,7 +58,7 @@ returns-2 c =
     started-put (a .m) (a .psf .now) (a .gray .now) (a .dots .now) (a .table .now)
     64 (omega arith) (a .out .now) (p .put-refused .result) (p .put-refused .last .0)
     _ _ _ _ (e .start .ensures .0) (k .answer2 .given .1)
-    (e .start .ensures .1 .0) (e .start .ensures .1 .1) (p .put-refused .ensures)
+    (e .start .ensures .1 .0) (e .start .ensures .1 .1 .0) (p .put-refused .ensures)
 
 pub put-started-spec : {M : Type 1} → statement M
 put-started-spec =

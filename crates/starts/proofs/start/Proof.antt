@@ -2,14 +2,20 @@
 use mathlib.Core.List.{List}
 use mathlib.Core.Path.{_≡_, sym, _∙_, subst}
 use Prim.Native.Nat.{ℕ}
+use native.Mathlib.Omega.{arith}
 use borrow.Author.Needs.{needs}
 use lib.ListN.{length}
+use Rattle.model.specs.Basic.{AtMost}
 use Rattle.model.specs.Refusal.{HalftoneFits, startRefusal}
 use Rattle.model.specs.Screen.{startDots}
 use Rattle.model.proofs.Refusal.{start-given, start-plate}
 use Rattle.model.proofs.Start.{start-refused, start-done}
 use Rattle.starts.proofs.start.Statement.{statement}
 use Rattle.starts.proofs.start.Tie as tie
+
+-- gray is made of bytes
+bytes : (k : tie.After-shared-slice-known2) → AtMost 255 (k .before .before .args .gray .now)
+bytes k = record { each = λ i. omega (arith, k .shared-slice-known2 .given i) }
 
 judge-start-requires : tie.Need-judge-start-requires
 judge-start-requires c κs = search needs
@@ -18,7 +24,10 @@ same-length : tie.Need-same-length
 same-length c = search needs
 
 returns : tie.Need-returns
-returns c = start-refused _ _ _ _ _ (c .before .judge-start .ensures) (c .if1 .taken)
+returns c =
+    let j = c .before in
+    let (reply, (dots, table)) = start-refused _ _ _ _ _ (j .judge-start .ensures) (c .if1 .taken) in
+    (reply, (dots, (table, bytes (j .before .before .before))))
 
 -- what is known once nothing is refused
 module _ (c : tie.Else1) where
@@ -57,8 +66,10 @@ returns-2 : tie.Need-returns-2
 returns-2 c =
     let b = c .before in
     let k = b .before .before .before .before .before in
-    start-done _ _ _ _ _ (taken (k .before .before))
-    (k .start-dots .ensures) (b .begin .ensures .0) (b .begin .ensures .1)
+    let e = k .before .before in
+    let (reply, (dots, table))
+    = start-done _ _ _ _ _ (taken e) (k .start-dots .ensures) (b .begin .ensures .0) (b .begin .ensures .1) in
+    (reply, (dots, (table, bytes (e .before .before .before .before))))
 
 pub start-spec : {M : Type 1} → statement M
 start-spec =
