@@ -11,7 +11,8 @@ use Rattle.model.specs.declared.Measures.{Measures}
 use Rattle.model.specs.declared.Stats.{Stats}
 use Rattle.model.specs.Error.{Target, targetFor, cellAt}
 use Rattle.model.specs.Refusal.{Refusal, firstOf, off, badCell, badCells, badPair, HalftoneFits}
-use Rattle.model.specs.State.{badTable, wrongStats, badLike, inputRefusals, stateRefusals, later, LaterFits}
+use Rattle.model.specs.Ledger.{wrongStats}
+use Rattle.model.specs.State.{badTable, badLike, inputRefusals, stateRefusals, later, LaterFits}
 use Rattle.model.specs.State.{laterRefusal, toggleRefusal, swapRefusal}
 use Rattle.model.proofs.Refusal.{numbered, numbered-append, None, none, none-append, first-passes, neither}
 use Rattle.model.proofs.Refusal.{none-above, halftone-by, halftone-none}

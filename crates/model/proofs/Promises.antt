@@ -24,7 +24,8 @@ use Rattle.model.specs.Psf.{total, autocorrelation, peak}
 use Rattle.model.specs.Error.{Target, targetOf, targetFor, cellAt, cells, kernel, error}
 use Rattle.model.specs.Error.{filteredError, filteredErrors, squaredError, perceivedSquares}
 use Rattle.model.specs.Refusal.{firstOf, halftoneRefusal, startRefusal, HalftoneFits}
-use Rattle.model.specs.State.{dotTotal, freshStats, badTable, badStats, wrongStats, StateFits, LaterFits}
+use Rattle.model.specs.Ledger.{changes, ledgerDots, fallOf, dotTotal, wrongStats}
+use Rattle.model.specs.State.{freshStats, badTable, badStats, StateFits, LaterFits}
 use Rattle.model.specs.State.{laterRefusal, toggleRefusal, swapRefusal}
 use Rattle.model.specs.Change.{sign, toggleSum, swapSum, counted}
 use Rattle.model.specs.Reference.{Move, made, toggle, swap, Reference, reference, accept, statsOf}
@@ -35,13 +36,14 @@ use Rattle.model.specs.Calls.{Reply, result, refused, Outcome, Buffers, 
 use Rattle.model.specs.Calls.{laterCall, toggleCall, swapCall, convergeCall}
 use Rattle.model.specs.Lists.{Call, convergence, Result, tried, rested, Held, latest, answering}
 use Rattle.model.specs.Lists.{handOn, call, run}
-use Rattle.model.specs.Lists.{begin, acceptedBy, referenceCall, referenceRun, Expected, Rest}
+use Rattle.model.specs.Lists.{begin, referenceCall, referenceRun, Expected, Rest}
 use Rattle.model.specs.Sheet.{Sheet, cellsOf, sheetText, Valid, Begins, Stops}
 use Rattle.model.specs.Format.{headOf, fits as roomFor, Read, readSheet}
 use Rattle.model.specs.SheetCalls.{result as written, withGiven, writtenSheet, readCall, writeCall}
 use Rattle.model.specs.Program.{refusedText, statsText, convergedText, startedText, processedText}
 use Rattle.model.specs.Program.{handedDots, output}
-use Rattle.model.specs.Interface.{numbers, statsIn, startOver, Slices, slicesOf, heldIn, callOver, runOver}
+use Rattle.model.specs.Interface.{statsSize, numbers, statsIn}
+use Rattle.model.specs.Interface.{startOver, Slices, slicesOf, heldIn, callOver, runOver}
 use Rattle.model.specs.Examples.{Examples, OneSided}
 use Rattle.model.proofs.Basic.{All}
 use Rattle.model.proofs.Psf.{autocorrelation-even, autocorrelation-supported}
@@ -124,15 +126,15 @@ module _ (w h r : ℕ) (psf gray dots : List ℕ) (bytes : AtMost 255 gray) wher
 module _ (m : Measures) (psf gray : List ℕ) where
   pub record Begun (left : Buffers) (s : Stats) : Type 0 where
     -- E at the start and E now are the sum, over the dots left
-    pub start-error-is-sum : s .«start_error» ≡ squaredError (targetFor m psf gray) (left .dots)
+    pub start-error-is-sum : s .figures .«start_error» ≡ squaredError (targetFor m psf gray) (left .dots)
     pub error-is-sum : s .error ≡ squaredError (targetFor m psf gray) (left .dots)
     -- E at the start is within 0 to 4,468,483,974,758,400
-    pub start-error-is-not-negative : pos 0 ≤ℤ s .«start_error»
-    pub start-error-is-bounded : s .«start_error» ≤ℤ pos 4468483974758400
+    pub start-error-is-not-negative : pos 0 ≤ℤ s .figures .«start_error»
+    pub start-error-is-bounded : s .figures .«start_error» ≤ℤ pos 4468483974758400
     -- the dots at the start are the number of dot bytes that are 1
-    pub start-dots-are-counted : s .«start_dots» ≡ length (filter (λ d. ℕ-discrete d 1) (left .dots))
+    pub start-dots-are-counted : s .figures .«start_dots» ≡ length (filter (λ d. ℕ-discrete d 1) (left .dots))
     -- the counts are 0
-    pub counts-are-0 : (s .on ≡ 0) × (s .off ≡ 0) × (s .swaps ≡ 0)
+    pub counts-are-0 : (s .figures .on ≡ 0) × (s .figures .off ≡ 0) × (s .figures .swaps ≡ 0)
     -- the table is that of the dots left
     pub table-is-fresh : left .table ≡ filteredErrors (targetFor m psf gray) (left .dots)
     -- what is left is what later calls accept: neither 1 to 7 nor 20 nor 21 is drawn
@@ -339,7 +341,7 @@ module _ (m : Measures) (psf gray : List ℕ) where
     pub is-at-rest : Rest (targetFor m psf gray) (m .reach) (o .buffer .dots) (o .buffer .table)
     -- its scans are at most 2 × its accepted changes + 2
     pub scans-are-few : (let after = referenceCall m psf gray before convergence .after in
-        answer .scans ≤ 2 * (acceptedBy after - acceptedBy before) + 2)
+        answer .scans ≤ 2 * (changes (after .figures) - changes (before .figures)) + 2)
 
   -- what holds after a list of calls, from the dots, table and ledger of a start whose dots are `first`
   module _ (first : List ℕ) (begun : Held) (l : List Call) where
@@ -362,8 +364,9 @@ module _ (m : Measures) (psf gray : List ℕ) where
       pub error-is-fresh : left .stats .error ≡ squaredError (targetFor m psf gray) (left .dots)
       -- a dot byte for each cell, 0 or 1
       pub dots-are-bits : (length (left .dots) ≡ m .height * m .width) × AtMost 1 (left .dots)
-      -- E at the start stays that of the first dots
-      pub start-is-kept : left .stats .«start_error» ≡ squaredError (targetFor m psf gray) first
+      -- E at the start and the dots at the start stay those of the first dots
+      pub start-error-is-kept : left .stats .figures .«start_error» ≡ squaredError (targetFor m psf gray) first
+      pub start-dots-are-kept : left .stats .figures .«start_dots» ≡ dotTotal first
       -- dots, ledger and every answer are those of the plain plate, which has no table
       pub dots-are-reference : left .dots ≡ reached .dots
       pub stats-are-reference : left .stats ≡ statsOf (targetFor m psf gray) reached
@@ -371,11 +374,9 @@ module _ (m : Measures) (psf gray : List ℕ) where
       -- the only refusals are 8, 9 and 22
       pub refusals-are-expected : All Expected answers
       -- dot total = first + on - off
-      pub dots-are-balanced : pos (dotTotal (left .dots))
-          ≡ pos (dotTotal first) +ℤ pos (left .stats .on) -ℤ pos (left .stats .off)
+      pub dots-are-balanced : pos (dotTotal (left .dots)) ≡ ledgerDots (left .stats .figures)
       -- the fall is at least 255 × accepted changes
-      pub fall-is-enough : (pos 255 *ℤ pos (acceptedBy reached))
-          ≤ℤ (squaredError (targetFor m psf gray) first -ℤ squaredError (targetFor m psf gray) (left .dots))
+      pub fall-is-enough : (pos 255 *ℤ pos (changes (reached .figures))) ≤ℤ fallOf (left .stats)
       -- every settling in it ends at rest, within 2 × accepted + 2 scans
       pub convergences-end-at-rest : (before rest : List Call) → l ≡ before ++ (convergence ∷ rest)
           → ComesToRest (referenceRun m psf gray (begin (targetFor m psf gray) first) before .1)
@@ -406,7 +407,8 @@ module _ (m : Measures) (psf gray : List ℕ) where
   module _ (first : List ℕ) (f : Sound m psf gray (begin (targetFor m psf gray) first)) where
     abbrev From : Reference → Type 0
     From p =
-        (p .start-error ≡ squaredError (targetFor m psf gray) first) × (p .start-dots ≡ dotTotal first)
+        (p .figures .«start_error» ≡ squaredError (targetFor m psf gray) first)
+        × (p .figures .«start_dots» ≡ dotTotal first)
 
     beside : (l : List Call)
         → Alike m psf gray From
@@ -430,19 +432,16 @@ module _ (m : Measures) (psf gray : List ℕ) where
           dots-are-bits =
               subst (λ h. (length (h .dots) ≡ m .height * m .width) × AtMost 1 (h .dots)) back
               (r .sound .halftone .dots-length, r .sound .halftone .bits);
-          start-is-kept = subst (λ h. h .stats .«start_error» ≡ squaredError t first) back (r .kept .0);
+          start-error-is-kept = subst (λ h. h .stats .figures .«start_error» ≡ squaredError t first) back (r .kept .0);
+          start-dots-are-kept = subst (λ h. h .stats .figures .«start_dots» ≡ dotTotal first) back (r .kept .1);
           dots-are-reference = ap (λ h. h .dots) (r .held);
           stats-are-reference = ap (λ h. h .stats) (r .held);
           answers-are-reference = r .answers;
           refusals-are-expected = subst (All Expected) (sym (r .answers)) (run-expected m psf gray (begin t first) l);
           dots-are-balanced =
-              subst (λ h.
-              pos (dotTotal (h .dots)) ≡ pos (dotTotal first) +ℤ pos (h .stats .on) -ℤ pos (h .stats .off)) back
-              (r .sound .state .total-is ∙ ap (λ d. pos d +ℤ pos (p .on) -ℤ pos (p .off)) (r .kept .1));
+              subst (λ h. pos (dotTotal (h .dots)) ≡ ledgerDots (h .stats .figures)) back (r .sound .state .total-is);
           fall-is-enough =
-              subst (λ h. (pos 255 *ℤ pos (acceptedBy p)) ≤ℤ (squaredError t first -ℤ squaredError t (h .dots))) back
-              (subst (λ z. (pos 255 *ℤ pos (acceptedBy p)) ≤ℤ (z -ℤ squaredError t (p .dots))) (r .kept .0)
-              (r .sound .state .fall));
+              subst (λ h. (pos 255 *ℤ pos (changes (p .figures))) ≤ℤ fallOf (h .stats)) back (r .sound .state .fall);
           convergences-end-at-rest = λ before rest e.
               subst (λ h.
               ComesToRest (referenceRun m psf gray (begin t first) before .1) (call m psf gray h convergence))
@@ -537,7 +536,7 @@ module _ (input : List ℕ) (s : Sheet) where
     -- a sheet that can be handed in again
     pub is-a-sheet : Valid (writtenSheet (s .measures) (s .psf) (s .gray) dots)
     -- before: the squared error of the dots of the start
-    pub before-is-of-start : done .stats .«start_error»
+    pub before-is-of-start : done .stats .figures .«start_error»
         ≡ squaredError held-against (startDots (s .measures) (s .gray) (handedDots s))
     -- after: the squared error of the dots printed
     pub after-is-of-dots : done .stats .error ≡ squaredError held-against dots
@@ -597,7 +596,7 @@ module _ (input : List ℕ) where
             is-printed =
                 e ∙ ap (λ r. convergedText (s .measures) (s .psf) (s .gray) r (o .buffer .dots)) k;
             is-a-sheet = again s (o .buffer .dots) (given .1) (d .dots-are-bits);
-            before-is-of-start = sym (ap (λ l. l .«start_error») latest-is) ∙ d .start-is-kept;
+            before-is-of-start = sym (ap (λ l. l .figures .«start_error») latest-is) ∙ d .start-error-is-kept;
             after-is-of-dots = sym (ap (λ l. l .error) latest-is) ∙ d .error-is-fresh;
             is-at-rest =
                 subst (Rest (held-against input s) (s .measures .reach) (o .buffer .dots)) (d .table-is-fresh)
@@ -638,14 +637,14 @@ pub stored-stats-read-back : (s : Stats) → statsIn (numbers s) ≡ s
 stored-stats-read-back = stored-read
 
 module _ (m : Measures) (psf gray : List ℕ) where
-  -- over a slice of six numbers a start and each later call is that of document 01, refused alike
-  pub start-takes-six-numbers : (dots : List ℕ) (table stats : List ℤ) → length stats ≡ 6
+  -- over a slice of that size a start and each later call is that of document 01, refused alike
+  pub start-takes-its-slice : (dots : List ℕ) (table stats : List ℤ) → length stats ≡ statsSize
       → startOver m psf gray dots table stats ≡ startCall m psf gray dots table
-  start-takes-six-numbers = start-over m psf gray
+  start-takes-its-slice = start-over m psf gray
 
-  pub calls-take-six-numbers : (h : Slices) (c : Call) → length (h .stats) ≡ 6
+  pub calls-take-their-slice : (h : Slices) (c : Call) → length (h .stats) ≡ statsSize
       → callOver m psf gray h c ≡ call m psf gray (heldIn h) c
-  calls-take-six-numbers = call-over m psf gray
+  calls-take-their-slice = call-over m psf gray
 
   -- so a list of its calls answers and leaves what the list of calls does, and demand 3 holds of it
   pub interface-lists-are-lists : (h : Held) (l : List Call)

@@ -13,17 +13,18 @@ use lib.Signed.{_≤ℤ_, _<ℤ_}
 use lib.ListN.{length, getD, set, length-set}
 use lib.Seq.{getD-set-same, getD-set-other}
 use Rattle.algebra.proofs.Solver.{reify}
-use Rattle.algebra.proofs.Order.{ordℤ, read≤, show≤, read≡, show≡}
+use Rattle.algebra.proofs.Order.{ordℤ, read≤, show≤, show≡}
 use Rattle.model.specs.declared.Stats.{Stats}
 use Rattle.model.specs.Basic.{pick, AtMost}
 use Rattle.model.specs.Psf.{total}
 use Rattle.model.specs.Error.{Target, cells, filteredErrors, squaredError, mostSquared}
 use Rattle.model.specs.Refusal.{HalftoneFits}
-use Rattle.model.specs.State.{dotTotal, changes, StateFits}
+use Rattle.model.specs.Ledger.{onCount, offCount, netOf, raised, changes, dotTotal}
+use Rattle.model.specs.State.{StateFits}
 use Rattle.model.specs.Change.{flipped}
-use Rattle.model.specs.Reference.{Count, onCount, offCount, swapCount, ofOn, ofOff, ofSwaps}
 use Rattle.model.specs.Reference.{Setting, Move, made, toggle, swap, reference, accept, statsOf, change}
 use Rattle.model.proofs.Error.{squared-nonneg}
+use Rattle.model.proofs.Ledger.{raised-start, raised-changes, raised-dots}
 use Rattle.model.proofs.Turn.{two, toggle-sets, toggle-made}
 use Rattle.model.proofs.Change.{Placed, change-least}
 
@@ -50,7 +51,7 @@ Bits (x ∷ l) = (x .byte ≤ 1) × Bits l
 pub record Legal (N : ℕ) (dots : List ℕ) (v : Move) : Type 0 where
   pub placed : Placed N (v .sets)
   pub bits : Bits (v .sets)
-  pub balance : dotTotal (made dots (v .sets)) + ofOff (v .raises) ≡ dotTotal dots + ofOn (v .raises)
+  pub balance : pos (dotTotal (made dots (v .sets))) ≡ pos (dotTotal dots) +ℤ netOf (v .raises)
 
 pub made-long : (dots : List ℕ) (l : List Setting) → length (made dots l) ≡ length dots
 unfolding made
@@ -97,9 +98,9 @@ module _ (dots : List ℕ) (bits : AtMost 1 dots) where
       after = total (flipped dots m)
 
       go : (x : ℕ) → x ≤ 1 → after + x ≡ total dots + (1 - x)
-          → after + ofOff (pick (eqb x 0) onCount offCount) ≡ total dots + ofOn (pick (eqb x 0) onCount offCount)
-      go zero k e = e
-      go (suc zero) k e = e
+          → pos after ≡ pos (total dots) +ℤ netOf (pick (eqb x 0) onCount offCount)
+      go zero k e = ap pos (omega (arith, e))
+      go (suc zero) k e = show≡ (pos after ∷ pos (total dots) ∷ []) (search reify depth 40) (omega (arith, e))
       go (suc (suc x)) k e = absurd (two x k)
 
   pub swap-legal : (m n : ℕ) → m < length dots → n < length dots → (getD dots m 0 ≡ getD dots n 0 → ⊥)
@@ -112,20 +113,16 @@ module _ (dots : List ℕ) (bits : AtMost 1 dots) where
         placed = (h, (k, tt));
         bits = (bits .each n, (bits .each m, tt));
         balance =
-            omega (
+            ap pos
+            (omega (
               arith,
               total-set (set dots m y) n x (rw (length-set dots m y) k),
               getD-set-other dots m n y 0 (λ e. unlike (ap (λ k. getD dots k 0) (sym e))),
               total-set dots m y h,
-            );
+            ));
       }
 
--- ---- an accepted change: exactly one count rises by 1
-pub counts : (k : Count) (a b c : ℕ) → a + ofOn k + (b + ofOff k) + (c + ofSwaps k) ≡ suc (a + b + c)
-counts onCount a b c = omega arith
-counts offCount a b c = omega arith
-counts swapCount a b c = omega arith
-
+-- ---- an accepted change
 -- E falls by the step at least, so the fall stays above the step times the accepted changes
 falls : (u n : ℕ) (z e f : ℤ) → (pos u *ℤ pos n) ≤ℤ (z -ℤ e) → (f -ℤ e) ≤ℤ negℤ (pos u)
     → (pos u *ℤ pos (suc n)) ≤ℤ (z -ℤ f)
@@ -140,7 +137,7 @@ falls u n z e f h k = rw size (go (pos u *ℤ pos n) (pos u) h k)
         show≤ ρ (search reify depth 40)
         (omega (arith, read≤ ρ (search reify depth 40) h, read≤ ρ (search reify depth 40) k))
 
--- and since E is never negative, they are few
+-- and since E is never negative, they are few: 255 is the least step for which this follows
 few : (u n : ℕ) (z f : ℤ) → 255 ≤ u → z ≤ℤ pos mostSquared → pos 0 ≤ℤ f → (pos u *ℤ pos n) ≤ℤ (z -ℤ f) → n ≤ 2 ^ 44
 few u n z f h k l m =
     let ρ : List ℤ = z ∷ f ∷ pos (u * n) ∷ [] in
@@ -155,41 +152,36 @@ module _ (t : Target) (wide : 0 < t .width) (step : 255 ≤ t .step) (dots : Lis
       record {
         table-is = refl;
         error-is = refl;
-        start-low = fits .start-low;
-        start-high = fits .start-high;
+        start-low = subst (λ z. pos 0 ≤ℤ z) (sym (kept .0)) (fits .start-low);
+        start-high = subst (λ z. z ≤ℤ pos mostSquared) (sym (kept .0)) (fits .start-high);
         on-few = omega (arith, rise, enough);
         off-few = omega (arith, rise, enough);
         swaps-few = omega (arith, rise, enough);
-        dots-fit = fits .dots-fit;
-        total-is = balanced;
-        fall = rw rise fall;
+        dots-fit = rw (kept .1) (fits .dots-fit);
+        total-is = legal .balance ∙ ap (λ z. z +ℤ netOf (v .raises)) (fits .total-is) ∙ sym (raised-dots _ _);
+        fall = rw (rise, kept .0) fall;
       }
     where
-      k : Count
-      k = v .raises
+      first : ℤ
+      first = s .figures .«start_error»
 
       after : ℤ
       after = squaredError t (made dots (v .sets))
 
-      rise : s .on + ofOn (v .raises) + (s .off + ofOff (v .raises)) + (s .swaps + ofSwaps (v .raises))
-          ≡ suc (changes s)
-      rise = counts (v .raises) (s .on) (s .off) (s .swaps)
+      kept : (raised (v .raises) (s .figures) .«start_error» ≡ first)
+          × (raised (v .raises) (s .figures) .«start_dots» ≡ s .figures .«start_dots»)
+      kept = raised-start (v .raises) (s .figures)
 
-      fall : (pos (t .step) *ℤ pos (suc (changes s))) ≤ℤ (s .«start_error» -ℤ squaredError t (made dots (v .sets)))
+      rise : changes (raised (v .raises) (s .figures)) ≡ suc (changes (s .figures))
+      rise = raised-changes (v .raises) (s .figures)
+
+      fall : (pos (t .step) *ℤ pos (suc (changes (s .figures)))) ≤ℤ (first -ℤ after)
       fall =
-          falls (t .step) (changes s) (s .«start_error») (squaredError t dots) after
-          (subst (λ z. (pos (t .step) *ℤ pos (changes s)) ≤ℤ (s .«start_error» -ℤ z)) (fits .error-is) (fits .fall))
+          falls (t .step) (changes (s .figures)) first (squaredError t dots) after
+          (subst (λ z. (pos (t .step) *ℤ pos (changes (s .figures))) ≤ℤ (first -ℤ z)) (fits .error-is) (fits .fall))
           (change-least t dots v long (legal .placed) lower)
 
-      enough : suc (changes s) ≤ 2 ^ 44
+      enough : suc (changes (s .figures)) ≤ 2 ^ 44
       enough =
-          few (t .step) (suc (changes s)) (s .«start_error») after step (fits .start-high)
+          few (t .step) (suc (changes (s .figures))) first after step (fits .start-high)
           (squared-nonneg t wide (made dots (v .sets))) fall
-
-      balanced : pos (dotTotal (made dots (v .sets)))
-          ≡ pos (s .«start_dots») +ℤ pos (s .on + ofOn (v .raises)) -ℤ pos (s .off + ofOff (v .raises))
-      balanced =
-          let ρ : List ℤ = pos (dotTotal dots) ∷ pos (s .«start_dots») ∷ pos (s .on) ∷ pos (s .off) ∷ [] in
-          show≡ (pos (dotTotal (made dots (v .sets))) ∷ pos (s .«start_dots») ∷ pos (s .on + ofOn (v .raises))
-          ∷ pos (s .off + ofOff (v .raises)) ∷ []) (search reify depth 40)
-          (omega (arith, legal .balance, read≡ ρ (search reify depth 40) (fits .total-is)))

@@ -3,7 +3,7 @@
 use mathlib.Core.List.{List, [], _∷_, _++_}
 use mathlib.Core.Logic.{_⊎_}
 use mathlib.Core.Path.{_≡_}
-use Prim.Native.Nat.{ℕ, zero, suc, _+_, _*_, _/_, _%_, _≤_, _<_}
+use Prim.Native.Nat.{ℕ, zero, suc, _/_, _%_, _≤_, _<_}
 use lib.IntN.{ℤ, pos, negℤ, _*ℤ_}
 use lib.Signed.{_≤ℤ_}
 use lib.ListN.{getD}
@@ -12,9 +12,9 @@ use Rattle.model.specs.declared.Stats.{Stats}
 use Rattle.model.specs.declared.ScanResult.{ScanResult}
 use Rattle.model.specs.declared.ConvergeResult.{ConvergeResult}
 use Rattle.model.specs.Psf.{peak}
-use Rattle.model.specs.Error.{Target, cells, squaredError}
+use Rattle.model.specs.Error.{Target, cells}
 use Rattle.model.specs.Refusal.{Refusal, firstOf, gap}
-use Rattle.model.specs.State.{dotTotal, toggleNamed, swapNamed, swapAlike}
+use Rattle.model.specs.State.{freshFigures, toggleNamed, swapNamed, swapAlike}
 use Rattle.model.specs.Reference.{toggle, swap, Reference, Performed, Tried, accepted, declined, change}
 use Rattle.model.specs.Calls.{Reply, result, refused, Outcome, Buffers}
 use Rattle.model.specs.Calls.{toggled, swapped, toggleScanned, swapScanned, atRest}
@@ -80,21 +80,9 @@ module _ (m : Measures) (psf gray : List ℕ) where
       (o .reply ∷ r .0, r .1)
 
 -- ---- the reference
--- at a start: the dots of the rule for starts, their E and their number, and the counts 0
+-- at a start: the dots of the rule for starts, and fresh figures
 unfoldable pub begin : Target → List ℕ → Reference
-begin t dots =
-    record {
-      dots = dots;
-      start-error = squaredError t dots;
-      start-dots = dotTotal dots;
-      on = 0;
-      off = 0;
-      swaps = 0;
-    }
-
--- the changes that it has accepted
-abbrev pub acceptedBy : Reference → ℕ
-acceptedBy p = p .on + p .off + p .swaps
+begin t dots = record { dots = dots; figures = freshFigures t dots }
 
 pub record Replied : Type 0 where
   pub reply : Reply Result

@@ -2,22 +2,18 @@
 -- attempt makes its change on a copy of the dots, and the copy replaces them where its E is lower.
 use mathlib.Core.Bool.{Bool}
 use mathlib.Core.List.{List, [], _∷_}
-use Prim.Native.Nat.{ℕ, _+_}
+use Prim.Native.Nat.{ℕ}
 use lib.Dec.{eqb}
 use lib.IntN.{ℤ, pos, _-ℤ_}
 use lib.Signed.{ltZ}
 use lib.ListN.{getD, set}
+use Rattle.model.specs.declared.Figures.{Figures}
 use Rattle.model.specs.declared.Stats.{Stats}
 use Rattle.model.specs.Basic.{pick}
 use Rattle.model.specs.Error.{Target, squaredError}
+use Rattle.model.specs.Ledger.{Count, onCount, offCount, swapCount, raised}
 
 -- ---- a change: the count that it raises, and the cells that it sets with their new bytes
--- toggles on, toggles off, swaps
-pub data Count : Type 0 where
-  onCount : Count
-  offCount : Count
-  swapCount : Count
-
 pub record Setting : Type 0 where
   pub cell : ℕ
   pub byte : ℕ
@@ -48,51 +44,15 @@ swap dots m n =
 -- ---- what it holds
 pub record Reference : Type 0 where
   pub dots : List ℕ
-  pub start-error : ℤ
-  pub start-dots : ℕ
-  pub on : ℕ
-  pub off : ℕ
-  pub swaps : ℕ
+  pub figures : Figures
 
 -- the reference with these dots and the figures of this ledger
 abbrev pub reference : List ℕ → Stats → Reference
-reference dots s =
-    record {
-      dots = dots;
-      start-error = s .«start_error»;
-      start-dots = s .«start_dots»;
-      on = s .on;
-      off = s .off;
-      swaps = s .swaps;
-    }
-
--- what a change adds to each count: the one matching count rises by 1
-abbrev pub ofOn : Count → ℕ
-ofOn onCount = 1
-ofOn offCount = 0
-ofOn swapCount = 0
-
-abbrev pub ofOff : Count → ℕ
-ofOff onCount = 0
-ofOff offCount = 1
-ofOff swapCount = 0
-
-abbrev pub ofSwaps : Count → ℕ
-ofSwaps onCount = 0
-ofSwaps offCount = 0
-ofSwaps swapCount = 1
+reference dots s = record { dots = dots; figures = s .figures }
 
 -- the copy replaces the dots, and the one matching count rises by 1
 unfoldable pub accept : Reference → Move → Reference
-accept p v =
-    record {
-      dots = made (p .dots) (v .sets);
-      start-error = p .start-error;
-      start-dots = p .start-dots;
-      on = p .on + ofOn (v .raises);
-      off = p .off + ofOff (v .raises);
-      swaps = p .swaps + ofSwaps (v .raises);
-    }
+accept p v = record { dots = made (p .dots) (v .sets); figures = raised (v .raises) (p .figures) }
 
 -- what a call that is not refused answers, and the reference after it
 pub record Performed (A : Type 0) : Type 0 where
@@ -108,15 +68,7 @@ pub data Tried : Type 0 where
 module _ (t : Target) where
   -- a ledger holds the figures, E now being the sum
   unfoldable pub statsOf : Reference → Stats
-  statsOf p =
-      record {
-        «start_error» = p .start-error;
-        error = squaredError t (p .dots);
-        «start_dots» = p .start-dots;
-        on = p .on;
-        off = p .off;
-        swaps = p .swaps;
-      }
+  statsOf p = record { error = squaredError t (p .dots); figures = p .figures }
 
   -- the copy's E less the E before
   unfoldable pub change : List ℕ → Move → ℤ
