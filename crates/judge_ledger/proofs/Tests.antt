@@ -14,8 +14,8 @@ use mir.Val.{Fits}
 use Rattle.algebra.proofs.Solver.{reify}
 use Rattle.algebra.proofs.Order.{read≡, show≡}
 use Rattle.model.specs.Error.{cells, mostSquared}
+use Rattle.model.specs.Ledger.{unequal, some, faults, wrongTotal, wrongFall, wrongStats}
 use Rattle.model.specs.Refusal.{firstOf}
-use Rattle.model.specs.State.{unequal, some, faults, wrongTotal, wrongFall, wrongStats}
 use Rattle.model.specs.declared.Stats.{Stats}
 use Rattle.model.proofs.State.{same, equal}
 
@@ -57,14 +57,15 @@ module _ (cells : ℕ) (squared : ℤ) (total : ℕ) (s : Stats) where
   -- its nine tests, in the code's order
   abbrev tests : List Bool
   tests =
+      let f = s .figures in
       unequal (s .error) squared
-      ∷ ltZ (s .«start_error») (pos 0)
-      ∷ ltZ (pos mostSquared) (s .«start_error»)
-      ∷ ltb (2 ^ 44) (s .on)
-      ∷ ltb (2 ^ 44) (s .off)
-      ∷ ltb (2 ^ 44) (s .swaps)
-      ∷ ltb cells (s .«start_dots»)
-      ∷ wrongTotal cells 255 squared total s
+      ∷ ltZ (f .«start_error») (pos 0)
+      ∷ ltZ (pos mostSquared) (f .«start_error»)
+      ∷ ltb (2 ^ 44) (f .on)
+      ∷ ltb (2 ^ 44) (f .off)
+      ∷ ltb (2 ^ 44) (f .swaps)
+      ∷ ltb cells (f .«start_dots»)
+      ∷ wrongTotal cells 255 squared total f
       ∷ wrongFall cells 255 squared total s
       ∷ []
 

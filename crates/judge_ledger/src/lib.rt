@@ -5,8 +5,8 @@ ghost use Prim.Native.Nat.{_≤_};
 ghost use lib.IntN.{pos};
 ghost use lib.Signed.{_≤ℤ_};
 ghost use Rattle.model.specs.Error.{mostSquared};
+ghost use Rattle.model.specs.Ledger.{wrongStats};
 ghost use Rattle.model.specs.Refusal.{firstOf};
-ghost use Rattle.model.specs.State.{wrongStats};
 use model::Stats;
 
 // 21, of a plate of that many cells, whose squared error and number of dots are these. The figures of the ledger may be
@@ -18,29 +18,29 @@ pub fn judge_ledger(cells: usize, error: i64, dots: usize, stats: Stats) -> u32
     if stats.error != error {
         return 21;
     }
-    if stats.start_error < 0 {
+    if stats.figures.start_error < 0 {
         return 21;
     }
-    if 4468483974758400 < stats.start_error {
+    if 4468483974758400 < stats.figures.start_error {
         return 21;
     }
-    if 17592186044416 < stats.on {
+    if 17592186044416 < stats.figures.on {
         return 21;
     }
-    if 17592186044416 < stats.off {
+    if 17592186044416 < stats.figures.off {
         return 21;
     }
-    if 17592186044416 < stats.swaps {
+    if 17592186044416 < stats.figures.swaps {
         return 21;
     }
-    if (cells as u64) < stats.start_dots {
+    if (cells as u64) < stats.figures.start_dots {
         return 21;
     }
-    if dots as u64 + stats.off != stats.start_dots + stats.on {
+    if dots as u64 + stats.figures.off != stats.figures.start_dots + stats.figures.on {
         return 21;
     }
-    let changes = stats.on + stats.off + stats.swaps;
-    if stats.start_error - stats.error < (255 * changes) as i64 {
+    let changes = stats.figures.on + stats.figures.off + stats.figures.swaps;
+    if stats.figures.start_error - stats.error < (255 * changes) as i64 {
         return 21;
     }
     0

@@ -9,8 +9,9 @@ use native.Mathlib.Omega.{arith}
 use lib.IntN.{ℤ, pos}
 use lib.ListN.{length, getD}
 use Rattle.model.specs.Error.{Target, cells, filteredError, filteredErrors}
+use Rattle.model.specs.Ledger.{unequal}
 use Rattle.model.specs.Refusal.{firstOf}
-use Rattle.model.specs.State.{unequal, someBelow, badTable, badStats}
+use Rattle.model.specs.State.{someBelow, badTable, badStats}
 use Rattle.model.specs.declared.Stats.{Stats}
 use Rattle.model.proofs.Basic.{getD-tabulate}
 use Rattle.model.proofs.Refusal.{_nor_}

@@ -2,7 +2,7 @@
 -- leaves.
 use mathlib.Core.List.{List, [], _∷_}
 use mathlib.Core.Path.{_≡_, refl, sym, _∙_, ap, ap₂, subst}
-use Prim.Native.Nat.{ℕ, _+_}
+use Prim.Native.Nat.{ℕ}
 use lib.Dec.{T, lit≤}
 use lib.IntN.{ℤ, pos, _+ℤ_, _-ℤ_}
 use lib.Signed.{_≤ℤ_, _<ℤ_, clashℤ}
@@ -14,10 +14,11 @@ use Rattle.model.specs.declared.Stats.{Stats}
 use Rattle.model.specs.Error.{Target, targetFor, cellAt, filteredErrors, squaredError, cells}
 use Rattle.model.specs.Refusal.{PlateFits}
 use Rattle.model.specs.State.{toggleRefusal, swapRefusal, LaterFits}
+use Rattle.model.specs.Ledger.{raised}
 use Rattle.model.specs.Change.{counted}
 use Rattle.model.specs.Reference.{Move, made, toggle, swap, Reference, reference, accept}
 use Rattle.model.specs.Reference.{Tried, accepted, declined, Performed}
-use Rattle.model.specs.Reference.{ofOn, ofOff, ofSwaps, statsOf, change, lowers, attempt, Legal}
+use Rattle.model.specs.Reference.{statsOf, change, lowers, attempt, Legal}
 use Rattle.model.specs.Calls.{result, toggleCall, swapCall, withTable, laterCall}
 use Rattle.model.specs.Lists.{tried, latest}
 use Rattle.model.specs.Promises.{Verdict, Tries}
@@ -63,15 +64,7 @@ pub counted-is : (t : Target) (dots : List ℕ) (s : Stats) (v : Move) {d : ℤ}
     → s .error ≡ squaredError t dots → d ≡ change t dots v
     → counted s d (v .raises) ≡ statsOf t (accept (reference dots s) v)
 unfolding counted statsOf accept change
-counted-is t dots s v {d} e f =
-    λ i. record {
-      «start_error» = s .«start_error»;
-      error = moved i;
-      «start_dots» = s .«start_dots»;
-      on = s .on + ofOn (v .raises);
-      off = s .off + ofOff (v .raises);
-      swaps = s .swaps + ofSwaps (v .raises);
-    }
+counted-is t dots s v {d} e f = λ i. record { error = moved i; figures = raised (v .raises) (s .figures) }
   where
     back : (a b : ℤ) → a +ℤ (b -ℤ a) ≡ b
     back a b = ring! (a ∷ b ∷ []) (search reify depth 40) refl
@@ -119,15 +112,7 @@ module _ (m : Measures) (psf gray dots : List ℕ) (table : List ℤ) (s : Stats
   -- the ledger handed in is the reference's
   pub entry-stats : s ≡ statsOf (targetFor m psf gray) (reference dots s)
   unfolding statsOf
-  entry-stats =
-      λ i. record {
-        «start_error» = s .«start_error»;
-        error = f .state .error-is i;
-        «start_dots» = s .«start_dots»;
-        on = s .on;
-        off = s .off;
-        swaps = s .swaps;
-      }
+  entry-stats = λ i. record { error = f .state .error-is i; figures = s .figures }
 
   -- as at the entry of a later call
   pub entry-sound : Sound m psf gray (reference dots s)

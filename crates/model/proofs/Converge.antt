@@ -12,7 +12,8 @@ use Rattle.model.specs.Basic.{pick}
 use Rattle.model.specs.Error.{Target, cells, squaredError, filteredErrors, Halftone}
 use Rattle.model.specs.Reference.{Reference}
 use Rattle.model.specs.Scan.{Rule, toggles, Sweep, sweep, Convergence, swaps, turn, convergeIn, convergeFrom}
-use Rattle.model.specs.Lists.{acceptedBy, Rest}
+use Rattle.model.specs.Lists.{Rest}
+use Rattle.model.specs.Ledger.{changes}
 use Rattle.model.proofs.Basic.{pick-cases}
 use Rattle.model.proofs.Scan.{Lawful, toggles-lawful, swaps-lawful, Keeps, sweep-keeps}
 use Rattle.model.proofs.Scan.{sweep-halftone, sweep-counts, sweep-lowers, sweep-still}
@@ -194,17 +195,19 @@ module _ (t : Target) (reach : ℕ) where
 
     -- ---- its scans are at most two, and two more for each change that it accepts
     pub converge-scans : (p : Reference) (n : ℕ)
-        → convergeFrom t reach p n .scans + 2 * acceptedBy p ≤ n + 2 * acceptedBy (convergeFrom t reach p n .after) + 2
+        → (let r = convergeFrom t reach p n in
+        r .scans + 2 * changes (p .figures) ≤ n + 2 * changes (r .after .figures) + 2)
     converge-scans =
-        converge-ind (λ p n r. r .scans + 2 * acceptedBy p ≤ n + 2 * acceptedBy (r .after) + 2)
+        converge-ind (λ p n r. r .scans + 2 * changes (p .figures) ≤ n + 2 * changes (r .after .figures) + 2)
         (λ p n r some ih. omega (arith, sweep-counts t (toggles t) p (cells t)))
         (λ p n r none some ih. omega (arith, sweep-counts t (swaps t reach) p (cells t)))
         (λ p n none none′. omega arith)
 
     -- and no accepted change is forgotten
-    pub converge-counts : (p : Reference) (n : ℕ) → acceptedBy p ≤ acceptedBy (convergeFrom t reach p n .after)
+    pub converge-counts : (p : Reference) (n : ℕ)
+        → changes (p .figures) ≤ changes (convergeFrom t reach p n .after .figures)
     converge-counts =
-        converge-ind (λ p n r. acceptedBy p ≤ acceptedBy (r .after))
+        converge-ind (λ p n r. changes (p .figures) ≤ changes (r .after .figures))
         (λ p n r some ih. omega (arith, sweep-counts t (toggles t) p (cells t)))
         (λ p n r none some ih. omega (arith, sweep-counts t (swaps t reach) p (cells t)))
         (λ p n none none′. omega arith)

@@ -1,9 +1,9 @@
 -- Demand 3: what holds after every list of calls from a start, and that what a call leaves is accepted again.
-use mathlib.Core.Path.{_≡_, refl, sym, _∙_, ap, subst}
+use mathlib.Core.Path.{_≡_, refl, sym, ap, subst}
 use mathlib.Core.List.{List}
 use Prim.Native.Nat.{ℕ, _*_}
 use native.Mathlib.Omega.{arith}
-use lib.IntN.{ℤ, pos, _+ℤ_, _-ℤ_, _*ℤ_}
+use lib.IntN.{ℤ, pos, _*ℤ_}
 use lib.Signed.{_≤ℤ_}
 use lib.ListN.{length}
 use lib.Dec.{lit≤}
@@ -11,11 +11,12 @@ use Rattle.model.specs.declared.Measures.{Measures}
 use Rattle.model.specs.declared.Stats.{Stats}
 use Rattle.model.specs.Basic.{AtMost, All}
 use Rattle.model.specs.Error.{targetFor, filteredErrors, squaredError}
-use Rattle.model.specs.State.{dotTotal, laterRefusal, freshStats}
+use Rattle.model.specs.Ledger.{changes, ledgerDots, fallOf, dotTotal}
+use Rattle.model.specs.State.{laterRefusal, freshStats}
 use Rattle.model.specs.Reference.{Reference, statsOf}
 use Rattle.model.specs.Screen.{startDots}
 use Rattle.model.specs.Calls.{result, startCall}
-use Rattle.model.specs.Lists.{Call, convergence, Held, handOn, call, run, begin, acceptedBy, referenceRun, Expected, Rest}
+use Rattle.model.specs.Lists.{Call, convergence, Held, handOn, call, run, begin, referenceRun, Expected, Rest}
 use Rattle.model.specs.Refusal.{startRefusal}
 use Rattle.model.specs.Scan.{converge}
 use Rattle.model.specs.Promises.{ComesToRest, Demand3}
@@ -53,7 +54,8 @@ module _ (m : Measures) (psf gray : List ℕ) where
   module _ (first : List ℕ) (f : Sound m psf gray (begin (targetFor m psf gray) first)) where
     abbrev From : Reference → Type 0
     From p =
-        (p .start-error ≡ squaredError (targetFor m psf gray) first) × (p .start-dots ≡ dotTotal first)
+        (p .figures .«start_error» ≡ squaredError (targetFor m psf gray) first)
+        × (p .figures .«start_dots» ≡ dotTotal first)
 
     beside : (l : List Call)
         → Alike m psf gray From
@@ -79,19 +81,16 @@ module _ (m : Measures) (psf gray : List ℕ) where
           dots-are-bits =
               subst (λ h. (length (h .dots) ≡ m .height * m .width) × AtMost 1 (h .dots)) back
               (r .sound .plate .halftone .dots-length, r .sound .plate .halftone .bits);
-          start-is-kept = subst (λ h. h .stats .«start_error» ≡ squaredError t first) back (r .kept .0);
+          start-error-is-kept = subst (λ h. h .stats .figures .«start_error» ≡ squaredError t first) back (r .kept .0);
+          start-dots-are-kept = subst (λ h. h .stats .figures .«start_dots» ≡ dotTotal first) back (r .kept .1);
           dots-are-reference = ap (λ h. h .dots) held;
           stats-are-reference = ap (λ h. h .stats) held;
           answers-are-reference = answers;
           refusals-are-expected = subst (All Expected) (sym answers) (run-expected m psf gray (begin t first) l);
           dots-are-balanced =
-              subst (λ h.
-              pos (dotTotal (h .dots)) ≡ pos (dotTotal first) +ℤ pos (h .stats .on) -ℤ pos (h .stats .off)) back
-              (r .sound .state .total-is ∙ ap (λ d. pos d +ℤ pos (p .on) -ℤ pos (p .off)) (r .kept .1));
+              subst (λ h. pos (dotTotal (h .dots)) ≡ ledgerDots (h .stats .figures)) back (r .sound .state .total-is);
           fall-is-enough =
-              subst (λ h. (pos 255 *ℤ pos (acceptedBy p)) ≤ℤ (squaredError t first -ℤ squaredError t (h .dots))) back
-              (subst (λ z. (pos 255 *ℤ pos (acceptedBy p)) ≤ℤ (z -ℤ squaredError t (p .dots))) (r .kept .0)
-              (r .sound .state .fall));
+              subst (λ h. (pos 255 *ℤ pos (changes (p .figures))) ≤ℤ fallOf (h .stats)) back (r .sound .state .fall);
           convergences-end-at-rest = λ before rest e.
               subst (λ h.
               ComesToRest m psf gray (referenceRun m psf gray (begin t first) before .1) (call m psf gray h convergence))

@@ -8,7 +8,8 @@ use Rattle.model.specs.Psf.{total, psfAt, autocorrelation}
 use Rattle.model.specs.Error.{kernel, error, filteredError, filteredErrors, squaredError}
 use Rattle.model.specs.Screen.{bayer, thresholdAt, ordered, startDots}
 use Rattle.model.specs.Refusal.{above, startRefusal}
-use Rattle.model.specs.State.{someBelow, freshStats, badTable, wrongStats}
+use Rattle.model.specs.Ledger.{raised, wrongStats}
+use Rattle.model.specs.State.{someBelow, freshStats, badTable}
 use Rattle.model.specs.State.{laterRefusal, toggleRefusal, swapRefusal}
 use Rattle.model.specs.Reference.{made, toggle, swap, accept, statsOf, change, attempt}
 use Rattle.model.specs.Partners.{offsetsOf, offsetsFrom, offsets}
@@ -25,7 +26,7 @@ use Rattle.model.proofs.Rest.{rest-tested}
 pub examples : Examples
 unfolding sumTo sumFrom tabulate gridAt squareAt psfAt autocorrelation kernel error filteredError filteredErrors
     squaredError total bayer thresholdAt ordered startDots above someBelow badTable wrongStats toggleRefusal swapRefusal
-    made toggle swap accept statsOf change attempt laterCall toggleCall swapCall
+    made toggle swap raised accept statsOf change attempt laterCall toggleCall swapCall
     laterRefusal startRefusal freshStats startCall offsetsOf offsetsFrom offsets toggles swapsBy tryEach sweepTo
     convergeIn convergeFrom converge convergeCall digits names psfName grayName dotsName sheetText
     head body fieldAt headOf bodyEnd readSheet refusedText figuresText processedText output workedInput workedOutput

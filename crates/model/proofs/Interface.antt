@@ -1,4 +1,4 @@
--- The C interface: over a slice of six numbers its starts and later calls are those of document 01, so its lists of
+-- The C interface: over a slice of the right size its starts and later calls are those of document 01, so its lists of
 -- calls are lists of calls; and the change of an attempt tells whether it was accepted.
 use mathlib.Core.Bool.{false}
 use mathlib.Core.List.{List, [], _∷_, _++_}
@@ -20,7 +20,7 @@ use Rattle.model.specs.Calls.{Reply, result, refused, Outcome, unless, B
 use Rattle.model.specs.Calls.{toggleCall, swapCall, toggleScanCall, swapScanCall, convergeCall}
 use Rattle.model.specs.Lists.{Call, toggleAt, swapAt, toggleScan, swapScan, convergence}
 use Rattle.model.specs.Lists.{Result, tried, swept, rested, Held, latest, outcome, handOn, call, callNext, run}
-use Rattle.model.specs.Interface.{numbers, statsIn, badMeasures, sliceRefusal, overStats}
+use Rattle.model.specs.Interface.{statsSize, numbers, statsIn, badMeasures, sliceRefusal, overStats}
 use Rattle.model.specs.Interface.{startOver, toggleOver, swapOver, Told}
 use Rattle.model.specs.Interface.{Slices, slicesOf, heldIn, statsAfter, leave, callOver, runOver}
 use Rattle.model.proofs.Refusal.{first-passes, by-first}
@@ -36,32 +36,33 @@ twice b p zero k h = refl
 twice b p (suc n) k h =
     subst (λ j. record { reply = refused (suc n); buffer = b } ≡ unless j b p) (h (λ e. absurd (omega arith))) refl
 
--- of six numbers only 1 to 4 are drawn
-six-draws : (m : Measures) (stats : List ℤ) → length stats ≡ 6 → sliceRefusal m stats ≡ firstOf (badMeasures m)
+-- of a slice of that size only 1 to 4 are drawn
+slice-draws : (m : Measures) (stats : List ℤ) → length stats ≡ statsSize
+    → sliceRefusal m stats ≡ firstOf (badMeasures m)
 unfolding sliceRefusal
-six-draws m stats six =
-    rw (eq-eqb (length stats) 6 six) (first-passes (badMeasures m) (5 when false ∷ []) [] (refl, tt))
+slice-draws m stats sized =
+    rw (eq-eqb (length stats) statsSize sized) (first-passes (badMeasures m) (5 when false ∷ []) [] (refl, tt))
 
-module _ (m : Measures) (psf gray dots : List ℕ) (table stats : List ℤ) (six : length stats ≡ 6) where
+module _ (m : Measures) (psf gray dots : List ℕ) (table stats : List ℤ) (sized : length stats ≡ statsSize) where
   -- a call whose refusals begin with those
-  over-six : {A : Type 0} (l : List Refusal) → l ≡ badMeasures m ++ drop 4 l → (p : Outcome A Buffers)
+  over-slice : {A : Type 0} (l : List Refusal) → l ≡ badMeasures m ++ drop 4 l → (p : Outcome A Buffers)
       → let o = unless (firstOf l) (record { dots = dots; table = table }) p in
       overStats m psf gray dots table stats o ≡ o
   unfolding overStats
-  over-six l e p =
+  over-slice l e p =
       twice (record { dots = dots; table = table }) p (sliceRefusal m stats) (firstOf l)
-      (λ h. by-first (badMeasures m) (drop 4 l) tt (six-draws m stats six) h ∙ ap firstOf (sym e))
+      (λ h. by-first (badMeasures m) (drop 4 l) tt (slice-draws m stats sized) h ∙ ap firstOf (sym e))
 
   pub start-over : startOver m psf gray dots table stats ≡ startCall m psf gray dots table
   unfolding startCall startRefusal
-  start-over = over-six (startRefusals m psf gray dots (length table)) refl _
+  start-over = over-slice (startRefusals m psf gray dots (length table)) refl _
 
 module _ (m : Measures) (psf gray : List ℕ) where
-  pub call-over : (h : Slices) (c : Call) → length (h .stats) ≡ 6
+  pub call-over : (h : Slices) (c : Call) → length (h .stats) ≡ statsSize
       → callOver m psf gray h c ≡ call m psf gray (heldIn h) c
   unfolding toggleCall swapCall toggleScanCall swapScanCall convergeCall laterCall toggleRefusal swapRefusal
       laterRefusal
-  call-over h c six = go c
+  call-over h c sized = go c
     where
       drawn : Asked → List Refusal
       drawn = laterRefusals m psf gray (h .dots) (h .table) (statsIn (h .stats))
@@ -69,7 +70,7 @@ module _ (m : Measures) (psf gray : List ℕ) where
       taken : {A : Type 0} (f : A → Result) (a : Asked) (p : Outcome A Buffers)
           → let o = unless (firstOf (drawn a)) (record { dots = h .dots; table = h .table }) p in
           outcome f (overStats m psf gray (h .dots) (h .table) (h .stats) o) ≡ outcome f o
-      taken f a p = ap (outcome f) (over-six m psf gray (h .dots) (h .table) (h .stats) six (drawn a) refl p)
+      taken f a p = ap (outcome f) (over-slice m psf gray (h .dots) (h .table) (h .stats) sized (drawn a) refl p)
 
       go : (c : Call) → callOver m psf gray h c ≡ call m psf gray (heldIn h) c
       go (toggleAt row col) = taken tried (toggleAsked m row col) _

@@ -11,7 +11,8 @@ use Rattle.model.specs.declared.Measures.{Measures}
 use Rattle.model.specs.declared.Stats.{Stats}
 use Rattle.model.specs.Error.{Target, targetFor, cellAt}
 use Rattle.model.specs.Refusal.{Refusal, firstOf, off, badCells, badPair, inputRefusals}
-use Rattle.model.specs.State.{badTable, wrongStats, Asked, asks, noCell, toggleAsked, swapAsked, stateRefusals, laterRefusals}
+use Rattle.model.specs.Ledger.{wrongStats}
+use Rattle.model.specs.State.{badTable, Asked, asks, noCell, toggleAsked, swapAsked, stateRefusals, laterRefusals}
 use Rattle.model.specs.State.{laterRefusal, toggleRefusal, swapRefusal, LaterFits}
 use Rattle.model.proofs.Refusal.{numbered, numbered-append, None, none, none-append, first-passes, neither}
 use Rattle.model.proofs.Refusal.{plate-fits, plate-none}

@@ -10,6 +10,7 @@ pub mod Turn
 pub mod Partners
 pub mod Change
 pub mod Halftone
+pub mod Ledger
 pub mod State
 pub mod Later
 pub mod Calls

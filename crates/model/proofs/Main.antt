@@ -5,7 +5,7 @@ use Rattle.model.specs.Promises.{Promises}
 use Rattle.model.proofs.Psf.{autocorrelation-even, autocorrelation-ends}
 use Rattle.model.proofs.Psf.{autocorrelation-nonneg, autocorrelation-total}
 use Rattle.model.proofs.Halftone.{taken-perceived, taken-nonneg, taken-filtered, taken-squared}
-use Rattle.model.proofs.Change.{toggle-change, swap-change, change-least}
+use Rattle.model.proofs.Change.{toggle-change, swap-change, toggle-moves-table, swap-moves-table, change-least}
 use Rattle.model.proofs.Attempts.{toggle-tries, swap-tries}
 use Rattle.model.proofs.Start.{start-begins}
 use Rattle.model.proofs.Partners.{offsets-ordered}
@@ -17,7 +17,7 @@ use Rattle.model.proofs.Sheet.{read-exactly, read-back, same-text, writ
 use Rattle.model.proofs.Refused.{read-within}
 use Rattle.model.proofs.Leftmost.{refused-is-leftmost, leftmost-is-refused, read-draws-nothing}
 use Rattle.model.proofs.Printed.{program-promises}
-use Rattle.model.proofs.Interface.{start-over, call-over, stored-read, run-over}
+use Rattle.model.proofs.Interface.{start-over, call-over, toggle-is-told, swap-is-told, stored-read, run-over}
 use Rattle.model.proofs.Examples.{examples, one-sided}
 
 pub promises : Promises
@@ -39,6 +39,8 @@ promises =
       change-promises = λ t dots long. record {
         toggle-changes-by = λ bits. toggle-change t dots bits long;
         swap-changes-by = λ bits. swap-change t dots bits long;
+        toggle-moves-table = λ bits. toggle-moves-table t dots bits long;
+        swap-moves-table = λ bits. swap-moves-table t dots bits long;
         change-below-0-is-a-step = λ v. change-least t dots v long;
       };
       attempt-promises = λ m psf gray dots table s. record {
@@ -83,8 +85,10 @@ promises =
       program-promises = program-promises;
       interface-promises = λ m psf gray. record {
         stored-stats-read-back = stored-read;
-        start-takes-six-numbers = start-over m psf gray;
-        calls-take-six-numbers = call-over m psf gray;
+        start-takes-its-slice = start-over m psf gray;
+        calls-take-their-slice = call-over m psf gray;
+        toggle-is-told = toggle-is-told m psf gray;
+        swap-is-told = swap-is-told m psf gray;
         interface-lists-are-lists = run-over m psf gray;
       };
       examples-hold = examples;

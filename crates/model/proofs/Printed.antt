@@ -17,7 +17,8 @@ use Rattle.model.specs.Psf.{total}
 use Rattle.model.specs.Error.{squaredError, Halftone}
 use Rattle.model.specs.Refusal.{Refusal, firstOf, above, badSize, badRadius, badReach, badKind, badLength, badSum}
 use Rattle.model.specs.Refusal.{badGiven, startRefusal}
-use Rattle.model.specs.State.{dotTotal, freshStats}
+use Rattle.model.specs.Ledger.{dotTotal}
+use Rattle.model.specs.State.{freshStats}
 use Rattle.model.specs.Reference.{Reference, statsOf}
 use Rattle.model.specs.Scan.{converge}
 use Rattle.model.specs.Calls.{startCall, laterCall, convergeCall}
@@ -162,11 +163,11 @@ module _ (s : Sheet) (v : Valid s) where
         converge-keeps (sheetTarget s) (m .reach) wide (Sound m (s .psf) (s .gray)) (sound-kept m (s .psf) (s .gray))
         first 0 first-halftone first-sound
 
-    after-start : convergedFrom s .after .start-error ≡ squaredError (sheetTarget s) (firstDots s)
+    after-start : convergedFrom s .after .figures .«start_error» ≡ squaredError (sheetTarget s) (firstDots s)
     unfolding converge begin
     after-start =
         converge-keeps (sheetTarget s) (m .reach) wide
-        (λ p. (p .start-error ≡ squaredError (sheetTarget s) (firstDots s)) × (p .start-dots ≡ dotTotal (firstDots s)))
+        (λ p. (p .figures .«start_error» ≡ squaredError (sheetTarget s) (firstDots s)) × (p .figures .«start_dots» ≡ dotTotal (firstDots s)))
         (start-kept (sheetTarget s) _ _) first 0 first-halftone (refl, refl) .0
 
     written-valid : Valid (writtenSheet m (s .psf) (s .gray) (convergedFrom s .after .dots))
@@ -192,18 +193,18 @@ module _ (s : Sheet) (v : Valid s) where
         let t = sheetTarget s in
         record {
           dots = after .dots;
-          before = whole (after .start-error);
+          before = whole (after .figures .«start_error»);
           after = whole (squaredError t (after .dots));
-          on = after .on;
-          off = after .off;
-          swaps = after .swaps;
+          on = after .figures .on;
+          off = after .figures .off;
+          swaps = after .figures .swaps;
           scans = convergedFrom s .answer .scans;
           is-printed = e ∙ text-is;
           dots-are-reference = refl;
           is-at-rest =
               converge-rest t (m .reach) wide (lit≤ tt) (v .in-range .reached) first 0 first-halftone;
           before-is-of-start =
-              whole-is (after .start-error) (subst (λ z. pos 0 ≤ℤ z) (sym after-start) (nonneg (firstDots s)))
+              whole-is (after .figures .«start_error») (subst (λ z. pos 0 ≤ℤ z) (sym after-start) (nonneg (firstDots s)))
               ∙ after-start;
           after-is-of-dots = whole-is (squaredError t (after .dots)) (nonneg (after .dots));
           on-is-reference = refl;

@@ -21,11 +21,12 @@ use Rattle.model.specs.Error.{Target, targetFor, cells, squaredError, Ha
 use Rattle.model.specs.Reference.{Move, swap, made, Legal, Reference, accept, statsOf, change, lowers}
 use Rattle.model.specs.Partners.{Offset, offsets, lands, partner}
 use Rattle.model.specs.Scan.{Rule, toggles, suits, swapsBy, swaps, Sweep, tryEach, sweepTo}
-use Rattle.model.specs.Lists.{acceptedBy}
 use Rattle.model.proofs.Basic.{pick-cases}
+use Rattle.model.specs.Ledger.{changes}
 use Rattle.model.proofs.Error.{squared-nonneg}
+use Rattle.model.proofs.Ledger.{raised-start, raised-changes}
 use Rattle.model.proofs.State.{below, at-least}
-use Rattle.model.proofs.Reference.{made-long, made-bits, fits-halftone, toggle-legal, swap-legal, counts}
+use Rattle.model.proofs.Reference.{made-long, made-bits, fits-halftone, toggle-legal, swap-legal}
 use Rattle.model.proofs.Attempts.{Sound, accept-sound}
 use Rattle.model.proofs.Partners.{lands-on}
 
@@ -127,21 +128,22 @@ module _ (t : Target) where
     sweep-halftone n l = both-kept (λ p. Unit {0}) (λ p v f legal lower h. tt) tt n l .0
 
   -- the figures of the start
-  pub start-kept : (e : ℤ) (d : ℕ) → Keeps (λ p. (p .start-error ≡ e) × (p .start-dots ≡ d))
+  pub start-kept : (e : ℤ) (d : ℕ) → Keeps (λ p. (p .figures .«start_error» ≡ e) × (p .figures .«start_dots» ≡ d))
   unfolding accept
-  start-kept e d p v f legal lower h = h
+  start-kept e d p v f legal lower h =
+      let (error, dots) = raised-start (v .raises) (p .figures) in (error ∙ h .0, dots ∙ h .1)
 
   -- ---- its accepted changes are those counted
-  accept-counts : (p : Reference) (v : Move) → acceptedBy (accept p v) ≡ suc (acceptedBy p)
+  accept-counts : (p : Reference) (v : Move) → changes (accept p v .figures) ≡ suc (changes (p .figures))
   unfolding accept
-  accept-counts p v = counts (v .raises) (p .on) (p .off) (p .swaps)
+  accept-counts p v = raised-changes (v .raises) (p .figures)
 
   module _ (rule : Rule) (p : Reference) where
     pub sweep-counts : (n : ℕ)
-        → sweepTo t rule p n .changes + acceptedBy p ≡ acceptedBy (sweepTo t rule p n .after)
+        → sweepTo t rule p n .changes + changes (p .figures) ≡ changes (sweepTo t rule p n .after .figures)
     sweep-counts n =
-        sweep-holds (λ s. s .changes + acceptedBy p ≡ acceptedBy (s .after)) rule p (omega arith) n (λ s m h e.
-        every _ (λ v lower. omega (arith, e, accept-counts (s .after) v)) (rule (s .after .dots) m))
+        sweep-holds (λ s. s .changes + changes (p .figures) ≡ changes (s .after .figures)) rule p (omega arith) n
+        (λ s m h e. every _ (λ v lower. omega (arith, e, accept-counts (s .after) v)) (rule (s .after .dots) m))
 
     -- ---- each lowers E by 1 at least
     falls : (n : ℕ) → (squaredError t (sweepTo t rule p n .after .dots) +ℤ pos (sweepTo t rule p n .changes))

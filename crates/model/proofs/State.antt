@@ -19,8 +19,8 @@ use Rattle.model.specs.declared.Stats.{Stats}
 use Rattle.model.specs.Basic.{AtMost}
 use Rattle.model.specs.Psf.{total}
 use Rattle.model.specs.Error.{Target, cells, filteredError, filteredErrors, squaredError, mostSquared}
-use Rattle.model.specs.State.{dotTotal, unequal, someBelow, some, faults, freshStats}
-use Rattle.model.specs.State.{badTable, badStats, wrongStats, StateFits}
+use Rattle.model.specs.Ledger.{dotTotal, unequal, some, faults, wrongStats}
+use Rattle.model.specs.State.{someBelow, freshStats, badTable, badStats, StateFits}
 use Rattle.model.specs.Refusal.{firstOf}
 use Rattle.model.proofs.Basic.{at-most-tail, getD-tabulate, tabulate-by}
 use Rattle.model.proofs.Refusal.{None, neither, _nor_, none, drawn-none}
@@ -121,10 +121,11 @@ module _ (t : Target) (dots : List ℕ) where
   state-known table s long drawn =
       let (error, (start, (count, (few, (total, (fall, _))))))
       = clear (faults (cells t) (t .step) (squaredError t dots) (dotTotal dots) s) (drawn .1 .0) in
-      let first = s .«start_error» in
+      let f = s .figures in
+      let first = f .«start_error» in
       let most : ℕ = 2 ^ 44 in
       let (low, (high, _)) = clear (ltZ first (pos 0) ∷ ltZ (pos mostSquared) first ∷ []) start in
-      let (on, (off, (swaps, _))) = clear (ltb most (s .on) ∷ ltb most (s .off) ∷ ltb most (s .swaps) ∷ []) count in
+      let (on, (off, (swaps, _))) = clear (ltb most (f .on) ∷ ltb most (f .off) ∷ ltb most (f .swaps) ∷ []) count in
       record {
         table-is = tabulate-by (pos 0) (cells t) (filteredError t dots) table long (λ i h.
             equal _ _ (all-below (cells t) _ (drawn .0) i h));

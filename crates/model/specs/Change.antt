@@ -2,7 +2,7 @@
 -- on acceptance a dot turned and the ledger. That each sum is E of the changed copy less E before is a law
 -- (`toggle-change`, `byte-swap-change`, `swap-change` of proofs/Change.antt), for every step u in place of 255.
 use mathlib.Core.List.{List}
-use Prim.Native.Nat.{ℕ, _+_, _*_, _-_}
+use Prim.Native.Nat.{ℕ, _*_, _-_}
 use lib.Dec.{eqb}
 use lib.IntN.{ℤ, pos, negsuc, _+ℤ_, _-ℤ_, _*ℤ_}
 use lib.ListN.{getD, set}
@@ -10,7 +10,7 @@ use Rattle.model.specs.declared.Stats.{Stats}
 use Rattle.model.specs.Basic.{pick}
 use Rattle.model.specs.Psf.{peak}
 use Rattle.model.specs.Error.{Target, kernel, filteredError}
-use Rattle.model.specs.Reference.{Count, ofOn, ofOff, ofSwaps}
+use Rattle.model.specs.Ledger.{Count, raised}
 
 -- +1 for a blank, -1 for a dot
 abbrev pub signOf : (dot : ℕ) → ℤ
@@ -54,18 +54,6 @@ module _ (t : Target) (dots : List ℕ) where
 abbrev pub flipped : List ℕ → ℕ → List ℕ
 flipped dots m = set dots m (1 - getD dots m 0)
 
--- E now gains the change, and each count rises by so many
-abbrev pub raised : Stats → (change : ℤ) (on off swaps : ℕ) → Stats
-raised s change on off swaps =
-    record {
-      «start_error» = s .«start_error»;
-      error = s .error +ℤ change;
-      «start_dots» = s .«start_dots»;
-      on = s .on + on;
-      off = s .off + off;
-      swaps = s .swaps + swaps;
-    }
-
--- the one matching count by 1
+-- E now gains the change, and the one matching count rises by 1
 unfoldable pub counted : Stats → (change : ℤ) → Count → Stats
-counted s change k = raised s change (ofOn k) (ofOff k) (ofSwaps k)
+counted s change k = record { error = s .error +ℤ change; figures = raised k (s .figures) }

@@ -47,7 +47,10 @@ pairMeasures = record { width = 2; height = 1; radius = 1; reach = 1; start = 0 
 -- a ledger: E at the start and now, dots at the start, toggles on, toggles off, swaps
 abbrev pub stats : (before now : ℤ) (dots on off swaps : ℕ) → Stats
 stats before now dots on off swaps =
-    record { «start_error» = before; error = now; «start_dots» = dots; on = on; off = off; swaps = swaps }
+    record {
+      error = now;
+      figures = record { «start_error» = before; «start_dots» = dots; on = on; off = off; swaps = swaps };
+    }
 
 -- what a call answers, with the dots and the table that it leaves
 abbrev pub outcome : {A : Type 0} → A → List ℕ → List ℤ → Outcome A Buffers

@@ -34,14 +34,19 @@ after f b (result a) = f a
 after f b (refused n) = b
 
 -- ---- a ledger in a slice
+-- how many numbers it takes
+abbrev pub statsSize : ℕ
+statsSize = 6
+
 abbrev pub numbers : Stats → List ℤ
 numbers s =
-    s .«start_error»
+    let f = s .figures in
+    f .«start_error»
     ∷ s .error
-    ∷ pos (s .«start_dots»)
-    ∷ pos (s .on)
-    ∷ pos (s .off)
-    ∷ pos (s .swaps)
+    ∷ pos (f .«start_dots»)
+    ∷ pos (f .on)
+    ∷ pos (f .off)
+    ∷ pos (f .swaps)
     ∷ []
 
 -- a count: a number below 0 is none, and stands for the greatest of 64 bits, which 21 refuses
@@ -49,25 +54,28 @@ abbrev pub countOf : ℤ → ℕ
 countOf (pos n) = n
 countOf (negsuc n) = 2 ^ 64 - 1
 
--- the ledger in six numbers
+-- the ledger in such a slice
 unfoldable pub statsIn : List ℤ → Stats
 statsIn l =
     record {
-      «start_error» = getD l 0 (pos 0);
       error = getD l 1 (pos 0);
-      «start_dots» = countOf (getD l 2 (pos 0));
-      on = countOf (getD l 3 (pos 0));
-      off = countOf (getD l 4 (pos 0));
-      swaps = countOf (getD l 5 (pos 0));
+      figures =
+          record {
+            «start_error» = getD l 0 (pos 0);
+            «start_dots» = countOf (getD l 2 (pos 0));
+            on = countOf (getD l 3 (pos 0));
+            off = countOf (getD l 4 (pos 0));
+            swaps = countOf (getD l 5 (pos 0));
+          };
     }
 
 -- 1 to 4
 abbrev pub badMeasures : Measures → List Refusal
 badMeasures m = badSize (m .width) (m .height) ∷ badRadius (m .radius) ∷ badReach (m .reach) ∷ badKind (m .start) ∷ []
 
--- 5 where there are not six, in its place: after 1 to 4
+-- 5 where there are not so many, in its place: after 1 to 4
 abbrev pub badStatsLength : List ℤ → List Refusal
-badStatsLength stats = 5 when not (eqb (length stats) 6) ∷ []
+badStatsLength stats = 5 when not (eqb (length stats) statsSize) ∷ []
 
 unfoldable pub sliceRefusal : Measures → List ℤ → ℕ
 sliceRefusal m stats = firstOf (badMeasures m ++ badStatsLength stats)

@@ -5,6 +5,7 @@ pub mod Error
 pub mod Window
 pub mod Screen
 pub mod Refusal
+pub mod Ledger
 pub mod State
 pub mod Reference
 pub mod Change

@@ -2,7 +2,7 @@
 -- the plain plate), which is fed the kind of each call and the cells that it names. And what it is to be at rest.
 use mathlib.Core.List.{List, [], _∷_, List·Memᴰ as In}
 use mathlib.Core.Path.{_≡_}
-use Prim.Native.Nat.{ℕ, _+_, _/_, _%_, _≤_, _<_}
+use Prim.Native.Nat.{ℕ, _/_, _%_, _≤_, _<_}
 use lib.IntN.{ℤ, pos, negℤ, _*ℤ_}
 use lib.Signed.{_≤ℤ_}
 use lib.ListN.{getD}
@@ -11,9 +11,9 @@ use Rattle.model.specs.declared.Stats.{Stats}
 use Rattle.model.specs.declared.ScanResult.{ScanResult}
 use Rattle.model.specs.declared.ConvergeResult.{ConvergeResult}
 use Rattle.model.specs.Psf.{peak}
-use Rattle.model.specs.Error.{Target, cells, squaredError}
+use Rattle.model.specs.Error.{Target, cells}
 use Rattle.model.specs.Refusal.{firstOf, gap}
-use Rattle.model.specs.State.{dotTotal, Asked, asks, noCell, toggleAsked, swapAsked}
+use Rattle.model.specs.State.{freshFigures, Asked, asks, noCell, toggleAsked, swapAsked}
 use Rattle.model.specs.Reference.{toggle, swap, Reference, Performed, Tried, accepted, declined, change}
 use Rattle.model.specs.Calls.{Reply, result, refused, Outcome, unless, Buffers}
 use Rattle.model.specs.Calls.{toggled, swapped, toggleScanned, swapScanned, atRest}
@@ -86,21 +86,9 @@ module _ (m : Measures) (psf gray : List ℕ) where
   run = runBy callNext
 
 -- ---- the reference
--- at a start: the dots of the rule for starts, their E and their number, and the counts 0
+-- at a start: the dots of the rule for starts, and fresh figures
 unfoldable pub begin : Target → List ℕ → Reference
-begin t dots =
-    record {
-      dots = dots;
-      start-error = squaredError t dots;
-      start-dots = dotTotal dots;
-      on = 0;
-      off = 0;
-      swaps = 0;
-    }
-
--- the changes that it has accepted
-abbrev pub acceptedBy : Reference → ℕ
-acceptedBy p = p .on + p .off + p .swaps
+begin t dots = record { dots = dots; figures = freshFigures t dots }
 
 abbrev pub replied : {A : Type 0} → (A → Result) → Performed A → Outcome Result Reference
 replied f done = record { reply = result (f (done .answer)); buffer = done .after }

@@ -31,7 +31,8 @@ figuresText before after on off swaps scans =
 abbrev pub statsText : ConvergeResult → List ℕ
 statsText r =
     let s = r .stats in
-    figuresText (whole (s .«start_error»)) (whole (s .error)) (s .on) (s .off) (s .swaps) (r .scans)
+    let f = s .figures in
+    figuresText (whole (f .«start_error»)) (whole (s .error)) (f .on) (f .off) (f .swaps) (r .scans)
 
 -- what is printed of a sheet: it is started, then converges (01: settles)
 module _ (m : Measures) (psf gray : List ℕ) where

@@ -72,9 +72,9 @@ pub record Printed (input : List ℕ) (s : Sheet) : Type 0 where
   -- after: E of the dots printed
   pub after-is-of-dots : pos after ≡ squaredError (sheetTarget s) dots
   -- the three counts and the scans are those of the reference
-  pub on-is-reference : on ≡ convergedFrom s .after .on
-  pub off-is-reference : off ≡ convergedFrom s .after .off
-  pub swaps-is-reference : swaps ≡ convergedFrom s .after .swaps
+  pub on-is-reference : on ≡ convergedFrom s .after .figures .on
+  pub off-is-reference : off ≡ convergedFrom s .after .figures .off
+  pub swaps-is-reference : swaps ≡ convergedFrom s .after .figures .swaps
   pub scans-is-reference : scans ≡ convergedFrom s .answer .scans
   -- without the two lines it is a sheet that the reader takes again
   pub is-a-sheet : let w = writtenSheet (s .measures) (s .psf) (s .gray) dots in IsSheet (sheetText w) w

@@ -21,7 +21,8 @@ use Rattle.model.specs.Psf.{total, autocorrelation, peak}
 use Rattle.model.specs.Error.{Target, targetOf, targetFor, cellAt, cells, kernel, Halftone}
 use Rattle.model.specs.Error.{filteredError, filteredErrors, squaredError, perceivedSquares}
 use Rattle.model.specs.Refusal.{firstOf, halftoneRefusal}
-use Rattle.model.specs.State.{dotTotal, badTable, badStats, StateFits, laterRefusal}
+use Rattle.model.specs.Ledger.{changes, ledgerDots, fallOf, dotTotal}
+use Rattle.model.specs.State.{badTable, badStats, StateFits, laterRefusal}
 use Rattle.model.specs.Change.{sign, counted}
 use Rattle.model.specs.Reference.{Move, Placed, made, toggle, swap, Reference, reference, statsOf}
 use Rattle.model.specs.Reference.{Tried, accepted, declined, change, attempt}
@@ -30,14 +31,15 @@ use Rattle.model.specs.Scan.{Convergence, turn, convergeFrom}
 use Rattle.model.specs.Screen.{startDots}
 use Rattle.model.specs.Calls.{Reply, result, Outcome, Buffers, startCall, toggleCall, swapCall}
 use Rattle.model.specs.Lists.{Call, convergence, Result, tried, rested, Held, latest, handOn, call, run}
-use Rattle.model.specs.Lists.{begin, acceptedBy, referenceCall, referenceRun, Expected, Rest}
+use Rattle.model.specs.Lists.{begin, referenceCall, referenceRun, Expected, Rest}
 use Rattle.model.specs.Text.{isDigit, digits, capped, NoDigit, step, stepAt}
 use Rattle.model.specs.Sheet.{Sheet, roomFor, sheetText, Valid}
 use Rattle.model.specs.SheetRefusal.{Draws, Leftmost}
 use Rattle.model.specs.Format.{readSheet}
 use Rattle.model.specs.SheetCalls.{result as written, withGiven, writtenSheet, readCall, writeCall}
 use Rattle.model.specs.ProgramPromises.{ProgramPromises}
-use Rattle.model.specs.Interface.{numbers, statsIn, startOver, Slices, slicesOf, heldIn, callOver, runOver}
+use Rattle.model.specs.Interface.{statsSize, numbers, statsIn, startOver, toggleOver, swapOver, Told}
+use Rattle.model.specs.Interface.{Slices, slicesOf, heldIn, callOver, runOver}
 use Rattle.model.specs.Examples.{Examples, OneSided}
 
 -- ---- Plate, spread and peak: of any psf
@@ -91,6 +93,16 @@ module _ (t : Target) (dots : List ℕ) where
         ≡ pos (2 * t .step)
         *ℤ (sign dots m *ℤ (filteredError t dots m -ℤ filteredError t dots n)
         +ℤ pos (t .step) *ℤ (peak (t .radius) (t .psf) -ℤ kernel t m n))
+    -- each T(q) gains step × s(m) × c(q - m), and for a swap also step × s(n) × c(q - n)
+    pub toggle-moves-table : AtMost 1 dots → (m q : ℕ) → m < cells t
+        → filteredError t (made dots (toggle dots m .sets)) q
+        ≡ filteredError t dots q +ℤ pos (t .step) *ℤ sign dots m *ℤ kernel t q m
+    pub swap-moves-table : AtMost 1 dots → (m n q : ℕ) → m < cells t → n < cells t
+        → (getD dots m 0 ≡ getD dots n 0 → ⊥)
+        → filteredError t (made dots (swap dots m n .sets)) q
+        ≡ filteredError t dots q
+        +ℤ pos (t .step) *ℤ sign dots m *ℤ kernel t q m
+        +ℤ pos (t .step) *ℤ sign dots n *ℤ kernel t q n
     -- any change below 0, of cells on the plate, is at most -step
     pub change-below-0-is-a-step : (v : Move) → Placed (cells t) (v .sets)
         → change t dots v <ℤ pos 0 → change t dots v ≤ℤ negℤ (pos (t .step))
@@ -134,15 +146,15 @@ module _ (m : Measures) (psf gray dots : List ℕ) (table : List ℤ) (s : Stats
 module _ (m : Measures) (psf gray : List ℕ) where
   pub record Begun (left : Buffers) (s : Stats) : Type 0 where
     -- E at the start and E now are the sum, over the dots left
-    pub start-error-is-sum : s .«start_error» ≡ squaredError (targetFor m psf gray) (left .dots)
+    pub start-error-is-sum : s .figures .«start_error» ≡ squaredError (targetFor m psf gray) (left .dots)
     pub error-is-sum : s .error ≡ squaredError (targetFor m psf gray) (left .dots)
     -- E at the start is within 0 to 4,468,483,974,758,400
-    pub start-error-is-not-negative : pos 0 ≤ℤ s .«start_error»
-    pub start-error-is-bounded : s .«start_error» ≤ℤ pos 4468483974758400
+    pub start-error-is-not-negative : pos 0 ≤ℤ s .figures .«start_error»
+    pub start-error-is-bounded : s .figures .«start_error» ≤ℤ pos 4468483974758400
     -- the dots at the start are the number of dot bytes that are 1
-    pub start-dots-are-counted : s .«start_dots» ≡ length (filter (λ d. ℕ-discrete d 1) (left .dots))
+    pub start-dots-are-counted : s .figures .«start_dots» ≡ length (filter (λ d. ℕ-discrete d 1) (left .dots))
     -- the counts are 0
-    pub counts-are-0 : (s .on ≡ 0) × (s .off ≡ 0) × (s .swaps ≡ 0)
+    pub counts-are-0 : (s .figures .on ≡ 0) × (s .figures .off ≡ 0) × (s .figures .swaps ≡ 0)
     -- the table is that of the dots left
     pub table-is-fresh : left .table ≡ filteredErrors (targetFor m psf gray) (left .dots)
     -- what is left is what later calls accept: neither 1 to 7 nor 20 nor 21 is drawn
@@ -179,7 +191,7 @@ module _ (m : Measures) (psf gray : List ℕ) where
     pub is-at-rest : Rest (targetFor m psf gray) (m .reach) (o .buffer .dots) (o .buffer .table)
     -- its scans are at most 2 × its accepted changes + 2
     pub scans-are-few : (let after = referenceCall m psf gray before convergence .buffer in
-        answer .scans ≤ 2 * (acceptedBy after - acceptedBy before) + 2)
+        answer .scans ≤ 2 * (changes (after .figures) - changes (before .figures)) + 2)
 
   -- what holds after a list of calls, from the dots, table and ledger of a start whose dots are `first`
   module _ (first : List ℕ) (begun : Held) (l : List Call) where
@@ -202,8 +214,9 @@ module _ (m : Measures) (psf gray : List ℕ) where
       pub error-is-fresh : left .stats .error ≡ squaredError (targetFor m psf gray) (left .dots)
       -- a dot byte for each cell, 0 or 1
       pub dots-are-bits : (length (left .dots) ≡ m .height * m .width) × AtMost 1 (left .dots)
-      -- E at the start stays that of the first dots
-      pub start-is-kept : left .stats .«start_error» ≡ squaredError (targetFor m psf gray) first
+      -- E at the start and the dots at the start stay those of the first dots
+      pub start-error-is-kept : left .stats .figures .«start_error» ≡ squaredError (targetFor m psf gray) first
+      pub start-dots-are-kept : left .stats .figures .«start_dots» ≡ dotTotal first
       -- dots, ledger and every answer are those of the plain plate, which has no table
       pub dots-are-reference : left .dots ≡ reached .dots
       pub stats-are-reference : left .stats ≡ statsOf (targetFor m psf gray) reached
@@ -211,11 +224,9 @@ module _ (m : Measures) (psf gray : List ℕ) where
       -- the only refusals are 8, 9 and 22
       pub refusals-are-expected : All Expected answers
       -- dot total = first + on - off
-      pub dots-are-balanced : pos (dotTotal (left .dots))
-          ≡ pos (dotTotal first) +ℤ pos (left .stats .on) -ℤ pos (left .stats .off)
+      pub dots-are-balanced : pos (dotTotal (left .dots)) ≡ ledgerDots (left .stats .figures)
       -- the fall is at least 255 × accepted changes
-      pub fall-is-enough : (pos 255 *ℤ pos (acceptedBy reached))
-          ≤ℤ (squaredError (targetFor m psf gray) first -ℤ squaredError (targetFor m psf gray) (left .dots))
+      pub fall-is-enough : (pos 255 *ℤ pos (changes (reached .figures))) ≤ℤ fallOf (left .stats)
       -- every settling in it ends at rest, within 2 × accepted + 2 scans
       pub convergences-end-at-rest : (before rest : List Call) → l ≡ before ++ (convergence ∷ rest)
           → ComesToRest (referenceRun m psf gray (begin (targetFor m psf gray) first) before .1)
@@ -299,11 +310,18 @@ module _ (m : Measures) (psf gray : List ℕ) where
   pub record InterfacePromises : Type 0 where
     -- a ledger that was stored is read back as it was
     pub stored-stats-read-back : (s : Stats) → statsIn (numbers s) ≡ s
-    -- over a slice of six numbers a start and each later call is that of document 01, refused alike
-    pub start-takes-six-numbers : (dots : List ℕ) (table stats : List ℤ) → length stats ≡ 6
+    -- over a slice of that size a start and each later call is that of document 01, refused alike
+    pub start-takes-its-slice : (dots : List ℕ) (table stats : List ℤ) → length stats ≡ statsSize
         → startOver m psf gray dots table stats ≡ startCall m psf gray dots table
-    pub calls-take-six-numbers : (h : Slices) (c : Call) → length (h .stats) ≡ 6
+    pub calls-take-their-slice : (h : Slices) (c : Call) → length (h .stats) ≡ statsSize
         → callOver m psf gray h c ≡ call m psf gray (heldIn h) c
+    -- an attempt that is not refused was accepted exactly when its change is below 0
+    pub toggle-is-told : (dots : List ℕ) (table stats : List ℤ) (row col : ℕ) (a : Tried)
+        → (let o = toggleOver m psf gray dots table stats row col in
+        o .reply ≡ result a → Told dots table stats a (o .buffer))
+    pub swap-is-told : (dots : List ℕ) (table stats : List ℤ) (row col row′ col′ : ℕ) (a : Tried)
+        → (let o = swapOver m psf gray dots table stats row col row′ col′ in
+        o .reply ≡ result a → Told dots table stats a (o .buffer))
     -- so a list of its calls answers and leaves what the list of calls does, and demand 3 holds of it
     pub interface-lists-are-lists : (h : Held) (l : List Call)
         → (let r = run m psf gray h l in runOver m psf gray (slicesOf h) l ≡ (r .0, slicesOf (r .1)))

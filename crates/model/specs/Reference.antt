@@ -3,23 +3,18 @@
 use mathlib.Core.Bool.{Bool}
 use mathlib.Core.List.{List, [], _∷_}
 use mathlib.Core.Path.{_≡_}
-use Prim.Native.Nat.{ℕ, _+_, _≤_, _<_}
+use Prim.Native.Nat.{ℕ, _≤_, _<_}
 use lib.Dec.{eqb}
-use lib.IntN.{ℤ, pos, negsuc, _+ℤ_, _-ℤ_}
+use lib.IntN.{ℤ, pos, _+ℤ_, _-ℤ_}
 use lib.Signed.{ltZ}
 use lib.ListN.{getD, set}
+use Rattle.model.specs.declared.Figures.{Figures}
 use Rattle.model.specs.declared.Stats.{Stats}
 use Rattle.model.specs.Basic.{pick, All}
 use Rattle.model.specs.Error.{Target, cells, squaredError, topOf}
-use Rattle.model.specs.State.{dotTotal}
+use Rattle.model.specs.Ledger.{Count, onCount, offCount, swapCount, netOf, raised, dotTotal}
 
 -- ---- a change: the count that it raises, and the cells that it sets with their new bytes
--- toggles on, toggles off, swaps
-pub data Count : Type 0 where
-  onCount : Count
-  offCount : Count
-  swapCount : Count
-
 pub record Setting : Type 0 where
   pub cell : ℕ
   pub byte : ℕ
@@ -53,12 +48,6 @@ swap dots m n =
     }
 
 -- ---- a legal change of dots for a target
--- what a change adds to the dots on the plate
-abbrev pub netOf : Count → ℤ
-netOf onCount = pos 1
-netOf offCount = negsuc 0
-netOf swapCount = pos 0
-
 -- the cells that it sets are different
 abbrev pub Apart : List Setting → Type 0
 Apart [] = Unit {0}
@@ -77,51 +66,15 @@ pub record Legal (t : Target) (dots : List ℕ) (v : Move) : Type 0 where
 -- ---- what it holds
 pub record Reference : Type 0 where
   pub dots : List ℕ
-  pub start-error : ℤ
-  pub start-dots : ℕ
-  pub on : ℕ
-  pub off : ℕ
-  pub swaps : ℕ
+  pub figures : Figures
 
 -- the reference with these dots and the figures of this ledger
 abbrev pub reference : List ℕ → Stats → Reference
-reference dots s =
-    record {
-      dots = dots;
-      start-error = s .«start_error»;
-      start-dots = s .«start_dots»;
-      on = s .on;
-      off = s .off;
-      swaps = s .swaps;
-    }
-
--- what a change adds to each count: the one matching count rises by 1
-abbrev pub ofOn : Count → ℕ
-ofOn onCount = 1
-ofOn offCount = 0
-ofOn swapCount = 0
-
-abbrev pub ofOff : Count → ℕ
-ofOff onCount = 0
-ofOff offCount = 1
-ofOff swapCount = 0
-
-abbrev pub ofSwaps : Count → ℕ
-ofSwaps onCount = 0
-ofSwaps offCount = 0
-ofSwaps swapCount = 1
+reference dots s = record { dots = dots; figures = s .figures }
 
 -- the copy replaces the dots, and the one matching count rises by 1
 unfoldable pub accept : Reference → Move → Reference
-accept p v =
-    record {
-      dots = made (p .dots) (v .sets);
-      start-error = p .start-error;
-      start-dots = p .start-dots;
-      on = p .on + ofOn (v .raises);
-      off = p .off + ofOff (v .raises);
-      swaps = p .swaps + ofSwaps (v .raises);
-    }
+accept p v = record { dots = made (p .dots) (v .sets); figures = raised (v .raises) (p .figures) }
 
 -- what a call that is not refused answers, and the reference after it
 pub record Performed (A : Type 0) : Type 0 where
@@ -137,15 +90,7 @@ pub data Tried : Type 0 where
 module _ (t : Target) where
   -- a ledger holds the figures, E now being the sum
   unfoldable pub statsOf : Reference → Stats
-  statsOf p =
-      record {
-        «start_error» = p .start-error;
-        error = squaredError t (p .dots);
-        «start_dots» = p .start-dots;
-        on = p .on;
-        off = p .off;
-        swaps = p .swaps;
-      }
+  statsOf p = record { error = squaredError t (p .dots); figures = p .figures }
 
   -- the copy's E less the E before
   unfoldable pub change : List ℕ → Move → ℤ

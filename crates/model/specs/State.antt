@@ -3,87 +3,40 @@
 use mathlib.Core.Bool.{Bool, false, _||_}
 use mathlib.Core.List.{List, [], _∷_, _++_}
 use mathlib.Core.Path.{_≡_}
-use Prim.Native.Nat.{ℕ, zero, suc, _+_, _^_, _≤_}
-use lib.Dec.{ltb, eqb}
-use lib.IntN.{ℤ, pos, _+ℤ_, _-ℤ_, _*ℤ_}
-use lib.Signed.{ltZ, _≤ℤ_}
+use Prim.Native.Nat.{ℕ, zero, suc, _^_, _≤_}
+use lib.Dec.{eqb}
+use lib.IntN.{ℤ, pos, _*ℤ_}
+use lib.Signed.{_≤ℤ_}
 use lib.ListN.{length, getD}
 use Rattle.model.specs.declared.Measures.{Measures}
+use Rattle.model.specs.declared.Figures.{Figures}
 use Rattle.model.specs.declared.Stats.{Stats}
-use Rattle.model.specs.Psf.{total}
 use Rattle.model.specs.Error.{Target, targetFor, cellAt, mostSquared, cells}
 use Rattle.model.specs.Error.{filteredErrors, filteredError, squaredError}
 use Rattle.model.specs.Refusal.{Refusal, _when_, firstOf, badCell, badCells, badPair, inputRefusals}
 use Rattle.model.specs.Refusal.{PlateFits}
-
--- the dot total: the number of dots on the plate, each byte being 0 or 1
-abbrev pub dotTotal : List ℕ → ℕ
-dotTotal = total
-
--- the accepted changes since the start
-abbrev pub changes : Stats → ℕ
-changes s = s .on + s .off + s .swaps
-
--- ---- the tests of 20 and 21
--- two numbers differ
-abbrev pub unequal : ℤ → ℤ → Bool
-unequal a b = ltZ a b || ltZ b a
+use Rattle.model.specs.Ledger.{changes, ledgerDots, fallOf, dotTotal, unequal, wrongStats}
 
 -- the test holds of some number below n
 unfoldable pub someBelow : ℕ → (ℕ → Bool) → Bool
 someBelow zero f = false
 someBelow (suc n) f = someBelow n f || f n
 
--- one of the tests holds
-abbrev pub some : List Bool → Bool
-some [] = false
-some (b ∷ l) = b || some l
-
--- ---- 21, by its six conditions, against the number of cells, what a dot is worth, E of the dots and the dot total
-module _ (cells step : ℕ) (squared : ℤ) (total : ℕ) where
-  -- E now differs
-  abbrev pub wrongError : Stats → Bool
-  wrongError s = unequal (s .error) squared
-
-  -- E at the start outside 0 to its maximum
-  abbrev pub wrongStart : Stats → Bool
-  wrongStart s = some (ltZ (s .«start_error») (pos 0) ∷ ltZ (pos mostSquared) (s .«start_error») ∷ [])
-
-  -- a count above 2^44
-  abbrev pub wrongCount : Stats → Bool
-  wrongCount s = some (ltb (2 ^ 44) (s .on) ∷ ltb (2 ^ 44) (s .off) ∷ ltb (2 ^ 44) (s .swaps) ∷ [])
-
-  -- dots at the start above width × height
-  abbrev pub wrongDots : Stats → Bool
-  wrongDots s = ltb cells (s .«start_dots»)
-
-  -- the count of dots on the plate differs from dots at the start + on - off
-  abbrev pub wrongTotal : Stats → Bool
-  wrongTotal s = unequal (pos total) (pos (s .«start_dots») +ℤ pos (s .on) -ℤ pos (s .off))
-
-  -- 255 × (on + off + swaps) exceeds E at the start - E now
-  abbrev pub wrongFall : Stats → Bool
-  wrongFall s = ltZ (s .«start_error» -ℤ s .error) (pos step *ℤ pos (changes s))
-
-  -- the six together
-  abbrev pub faults : Stats → List Bool
-  faults s = wrongError s ∷ wrongStart s ∷ wrongCount s ∷ wrongDots s ∷ wrongTotal s ∷ wrongFall s ∷ []
-
-  unfoldable pub wrongStats : Stats → Refusal
-  wrongStats s = 21 when some (faults s)
-
 module _ (t : Target) (dots : List ℕ) where
-  -- a fresh ledger: E at the start and now are the squared error, the dots are counted, the counts are 0
-  unfoldable pub freshStats : Stats
-  freshStats =
+  -- fresh figures: the squared error, the dots counted, and the counts 0
+  abbrev pub freshFigures : Figures
+  freshFigures =
       record {
         «start_error» = squaredError t dots;
-        error = squaredError t dots;
         «start_dots» = dotTotal dots;
         on = 0;
         off = 0;
         swaps = 0;
       }
+
+  -- a fresh ledger: E now is E at the start
+  unfoldable pub freshStats : Stats
+  freshStats = record { error = squaredError t dots; figures = freshFigures }
 
   -- 20 a table entry differs from T
   unfoldable pub badTable : List ℤ → Refusal
@@ -145,14 +98,14 @@ module _ (m : Measures) (psf gray dots : List ℕ) (table : List ℤ) (s : Stats
 pub record StateFits (t : Target) (dots : List ℕ) (table : List ℤ) (s : Stats) : Type 0 where
   pub table-is : table ≡ filteredErrors t dots
   pub error-is : s .error ≡ squaredError t dots
-  pub start-low : pos 0 ≤ℤ s .«start_error»
-  pub start-high : s .«start_error» ≤ℤ pos mostSquared
-  pub on-few : s .on ≤ 2 ^ 44
-  pub off-few : s .off ≤ 2 ^ 44
-  pub swaps-few : s .swaps ≤ 2 ^ 44
-  pub dots-fit : s .«start_dots» ≤ cells t
-  pub total-is : pos (dotTotal dots) ≡ pos (s .«start_dots») +ℤ pos (s .on) -ℤ pos (s .off)
-  pub fall : (pos (t .step) *ℤ pos (changes s)) ≤ℤ (s .«start_error» -ℤ s .error)
+  pub start-low : pos 0 ≤ℤ s .figures .«start_error»
+  pub start-high : s .figures .«start_error» ≤ℤ pos mostSquared
+  pub on-few : s .figures .on ≤ 2 ^ 44
+  pub off-few : s .figures .off ≤ 2 ^ 44
+  pub swaps-few : s .figures .swaps ≤ 2 ^ 44
+  pub dots-fit : s .figures .«start_dots» ≤ cells t
+  pub total-is : pos (dotTotal dots) ≡ ledgerDots (s .figures)
+  pub fall : (pos (t .step) *ℤ pos (changes (s .figures))) ≤ℤ fallOf s
 
 -- what a later call was handed that none of 1 to 7, 20 and 21 refused
 pub record LaterFits (m : Measures) (psf gray dots : List ℕ) (table : List ℤ) (s : Stats) : Type 0 where

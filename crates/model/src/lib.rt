@@ -9,15 +9,20 @@ pub struct Measures {
     pub start: usize,
 }
 
-// Document 01's ledger: the squared error at the start and now, the dots at the start, and how many toggles on, toggles
-// off and swaps were accepted since.
-pub struct Stats {
+// The figures of a ledger that are kept from the start on: the squared error and the dots at the start, and how many
+// toggles on, toggles off and swaps were accepted since.
+pub struct Figures {
     pub start_error: i64,
-    pub error: i64,
     pub start_dots: u64,
     pub on: u64,
     pub off: u64,
     pub swaps: u64,
+}
+
+// Document 01's ledger: the squared error now, and these figures.
+pub struct Stats {
+    pub error: i64,
+    pub figures: Figures,
 }
 
 // The answer of a call that fills a buffer: it is filled, or refused with the number of document 01.

@@ -8,7 +8,7 @@ use lib.IntN.{ℤ}
 use lib.ListN.{length}
 use Rattle.model.specs.declared.Measures.{Measures}
 use Rattle.model.specs.Calls.{Reply, Outcome, Buffers}
-use Rattle.model.specs.Interface.{status, after}
+use Rattle.model.specs.Interface.{status, after, statsSize}
 use Rattle.model.specs.Interface.{badMeasures, badStatsLength, sliceRefusal, overStats}
 use Rattle.model.specs.Interface.{sheetStatus, offsetAfter, sheetAfter, measureNumbers, readOver}
 use Rattle.model.specs.SheetCalls.{readCall}
@@ -17,17 +17,17 @@ use Rattle.platemaker_numbers.specs.Storable.{Holds}
 use Rattle.model.proofs.Refusal.{none}
 use Rattle.model.proofs.Calls.{is-refused, is-done}
 
--- a slice that is taken holds six
-pub slice-six : (m : Measures) (stats : List ℤ) {n : ℕ} → n ≡ sliceRefusal m stats → n ≡ 0 → length stats ≡ 6
+-- a slice that is taken has the size of a ledger
+pub slice-sized : (m : Measures) (stats : List ℤ) {n : ℕ} → n ≡ sliceRefusal m stats → n ≡ 0 → length stats ≡ statsSize
 unfolding sliceRefusal
-slice-six m stats e z =
+slice-sized m stats e z =
     let (_, (_, (_, (_, (exact, _))))) = none (badMeasures m ++ badStatsLength stats) tt e z in
-    eqb-true (length stats) 6 (not-false (eqb (length stats) 6) exact)
+    eqb-true (length stats) statsSize (not-false (eqb (length stats) statsSize) exact)
 
 -- what laying out an answer requires
 pub to-lay : {A : Type 0} (P : A → Type 0) (m : Measures) (stats : List ℤ) {n : ℕ} {r answer : Reply A}
-    → n ≡ sliceRefusal m stats → n ≡ 0 → r ≡ answer → Holds P answer → (length stats ≡ 6) × Holds P r
-to-lay P m stats e z k h = (slice-six m stats e z, subst (Holds P) (sym k) h)
+    → n ≡ sliceRefusal m stats → n ≡ 0 → r ≡ answer → Holds P answer → (length stats ≡ statsSize) × Holds P r
+to-lay P m stats e z k h = (slice-sized m stats e z, subst (Holds P) (sym k) h)
 
 -- ---- a start or a later call, with the ledger in a slice: what the function answers and leaves, one number more
 -- behind a pointer

@@ -3,7 +3,7 @@
 ghost use mathlib.Core.Path.{_≡_};
 ghost use lib.ListN.{length};
 ghost use Rattle.model.specs.Calls.{started, attempted, scanned, converged};
-ghost use Rattle.model.specs.Interface.{status, after, numbers};
+ghost use Rattle.model.specs.Interface.{status, after, statsSize, numbers};
 ghost use Rattle.model.specs.Interface.{changeOf, triedNumbers, scanNumbers, convergeNumbers};
 ghost use Rattle.platemaker_numbers.specs.Storable.{Storable, Holds, TriedStorable};
 use model::Attempt;
@@ -14,7 +14,7 @@ use platemaker_numbers::store_stats;
 
 // lays the answer of a start out: its status, and the ledger into its slice
 pub fn lay_start(answer: Started, stats: &mut [i64]) -> u32
-    requires { ⌜ length (now stats) ≡ 6 ⌝ }
+    requires { ⌜ length (now stats) ≡ statsSize ⌝ }
     requires { ⌜ Holds Storable (started answer) ⌝ }
     ensures { λ r. ⌜ (r ≡ status (started answer))
         × (now (stats .exit) ≡ after numbers (now (stats .entry)) (started answer)) ⌝ }
@@ -30,7 +30,7 @@ pub fn lay_start(answer: Started, stats: &mut [i64]) -> u32
 
 // the same of an attempt, with its change
 pub fn lay_attempt(answer: Attempt, stats: &mut [i64], change: &mut i64) -> u32
-    requires { ⌜ length (now stats) ≡ 6 ⌝ }
+    requires { ⌜ length (now stats) ≡ statsSize ⌝ }
     requires { ⌜ Holds TriedStorable (attempted answer) ⌝ }
     ensures { λ r. ⌜ (r ≡ status (attempted answer))
         × (now (stats .exit) ≡ after (triedNumbers (now (stats .entry))) (now (stats .entry)) (attempted answer))
@@ -52,7 +52,7 @@ pub fn lay_attempt(answer: Attempt, stats: &mut [i64], change: &mut i64) -> u32
 
 // the same of a scan, with its accepted changes
 pub fn lay_scan(answer: Scanned, stats: &mut [i64], changes: &mut u64) -> u32
-    requires { ⌜ length (now stats) ≡ 6 ⌝ }
+    requires { ⌜ length (now stats) ≡ statsSize ⌝ }
     requires { ⌜ Holds (λ done. Storable (done .stats)) (scanned answer) ⌝ }
     ensures { λ r. ⌜ (r ≡ status (scanned answer))
         × (now (stats .exit) ≡ after scanNumbers (now (stats .entry)) (scanned answer))
@@ -70,7 +70,7 @@ pub fn lay_scan(answer: Scanned, stats: &mut [i64], changes: &mut u64) -> u32
 
 // the same of a settling, with its scans
 pub fn lay_converged(answer: Converged, stats: &mut [i64], scans: &mut u64) -> u32
-    requires { ⌜ length (now stats) ≡ 6 ⌝ }
+    requires { ⌜ length (now stats) ≡ statsSize ⌝ }
     requires { ⌜ Holds (λ done. Storable (done .stats)) (converged answer) ⌝ }
     ensures { λ r. ⌜ (r ≡ status (converged answer))
         × (now (stats .exit) ≡ after convergeNumbers (now (stats .entry)) (converged answer))

@@ -14,7 +14,7 @@ use mir.Val.{toZ, ofZ, hbits}
 use Rattle.model.specs.declared.Measures.{Measures}
 use Rattle.model.specs.declared.Stats.{Stats}
 use Rattle.model.specs.Refusal.{firstOf}
-use Rattle.model.specs.Interface.{numbers, countOf, statsIn}
+use Rattle.model.specs.Interface.{statsSize, numbers, countOf, statsIn}
 use Rattle.model.specs.Interface.{badMeasures, badStatsLength, sliceRefusal}
 use Rattle.model.proofs.Refusal.{by-first, by-second}
 
@@ -32,13 +32,13 @@ all-stored vs l e =
 
 module _ (l : List ℤ) (s : Stats) {start error dots on off swaps : ℤ} where
   -- a ledger
-  pub numbers-stored : length l ≡ 6
-      → start ≡ s .«start_error»
+  pub numbers-stored : length l ≡ statsSize
+      → start ≡ s .figures .«start_error»
       → error ≡ s .error
-      → dots ≡ pos (s .«start_dots»)
-      → on ≡ pos (s .on)
-      → off ≡ pos (s .off)
-      → swaps ≡ pos (s .swaps)
+      → dots ≡ pos (s .figures .«start_dots»)
+      → on ≡ pos (s .figures .on)
+      → off ≡ pos (s .figures .off)
+      → swaps ≡ pos (s .figures .swaps)
       → sets l 0 (start ∷ error ∷ dots ∷ on ∷ off ∷ swaps ∷ []) ≡ numbers s
   numbers-stored e a b c d f g = rw (a, b, c, d, f, g) (all-stored (numbers s) l e)
 
@@ -62,12 +62,8 @@ module _ (l : List ℤ) where
       → off ≡ countOf (held 4)
       → swaps ≡ countOf (held 5)
       → _≡_ {A = Stats} (record {
-        «start_error» = held 0;
         error = held 1;
-        «start_dots» = dots;
-        on = on;
-        off = off;
-        swaps = swaps;
+        figures = record { «start_error» = held 0; «start_dots» = dots; on = on; off = off; swaps = swaps };
       }) (statsIn l)
   unfolding statsIn
   stats-read f0 f1 f2 f3 f4 f5 a b c d =
@@ -79,14 +75,14 @@ module _ (m : Measures) (stats : List ℤ) {x : ℕ} (e : x ≡ firstOf (badMeas
   unfolding sliceRefusal
   measures-refused = by-first (badMeasures m) (badStatsLength stats) tt e
 
-  pub length-refused : x ≡ 0 → (length stats ≡ 6 → ⊥) → 5 ≡ sliceRefusal m stats
+  pub length-refused : x ≡ 0 → (length stats ≡ statsSize → ⊥) → 5 ≡ sliceRefusal m stats
   unfolding sliceRefusal
   length-refused z h =
-      let drawn : 5 ≡ firstOf (badStatsLength stats) = rw (ne-eqb (length stats) 6 h) refl in
+      let drawn : 5 ≡ firstOf (badStatsLength stats) = rw (ne-eqb (length stats) statsSize h) refl in
       by-second (badMeasures m) (badStatsLength stats) tt e z drawn
 
-  pub none-refused : x ≡ 0 → length stats ≡ 6 → 0 ≡ sliceRefusal m stats
+  pub none-refused : x ≡ 0 → length stats ≡ statsSize → 0 ≡ sliceRefusal m stats
   unfolding sliceRefusal
   none-refused z h =
-      let drawn : 0 ≡ firstOf (badStatsLength stats) = rw (eq-eqb (length stats) 6 h) refl in
+      let drawn : 0 ≡ firstOf (badStatsLength stats) = rw (eq-eqb (length stats) statsSize h) refl in
       by-second (badMeasures m) (badStatsLength stats) tt e z drawn

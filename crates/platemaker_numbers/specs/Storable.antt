@@ -5,7 +5,9 @@ use Rattle.model.specs.Reference.{Tried, accepted, declined}
 use Rattle.model.specs.Calls.{Reply, result, refused}
 
 abbrev pub Storable : Stats → Type 0
-Storable s = (s .«start_dots» < 2 ^ 63) × (s .on < 2 ^ 63) × (s .off < 2 ^ 63) × (s .swaps < 2 ^ 63)
+Storable s =
+    let f = s .figures in
+    (f .«start_dots» < 2 ^ 63) × (f .on < 2 ^ 63) × (f .off < 2 ^ 63) × (f .swaps < 2 ^ 63)
 
 -- it holds of the result, where there is one
 abbrev pub Holds : {A : Type 0} → (A → Type 0) → Reply A → Type 0

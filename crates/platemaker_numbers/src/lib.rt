@@ -1,9 +1,10 @@
 // Ledgers and measures in slices of numbers, for the C interface.
 ghost use mathlib.Core.Path.{_≡_};
 ghost use lib.ListN.{length};
-ghost use Rattle.model.specs.Interface.{numbers, countOf, statsIn, sliceRefusal, measureNumbers};
+ghost use Rattle.model.specs.Interface.{statsSize, numbers, countOf, statsIn, sliceRefusal, measureNumbers};
 ghost use Rattle.platemaker_numbers.specs.Storable.{Storable};
 use judge_parts::judge_all_measures;
+use model::Figures;
 use model::Measures;
 use model::Stats;
 
@@ -17,33 +18,35 @@ fn count_of(x: i64) -> u64
     x as u64
 }
 
-// the ledger in six numbers
+// the ledger in a slice of numbers
 pub fn stats_of(numbers: &[i64]) -> Stats
-    requires { ⌜ length (now numbers) ≡ 6 ⌝ }
+    requires { ⌜ length (now numbers) ≡ statsSize ⌝ }
     ensures { λ r. ⌜ r ≡ statsIn (now (numbers .entry)) ⌝ }
 {
     Stats {
-        start_error: numbers[0],
         error: numbers[1],
-        start_dots: count_of(numbers[2]),
-        on: count_of(numbers[3]),
-        off: count_of(numbers[4]),
-        swaps: count_of(numbers[5]),
+        figures: Figures {
+            start_error: numbers[0],
+            start_dots: count_of(numbers[2]),
+            on: count_of(numbers[3]),
+            off: count_of(numbers[4]),
+            swaps: count_of(numbers[5]),
+        },
     }
 }
 
-// a ledger into six numbers
+// a ledger into a slice of numbers
 pub fn store_stats(out: &mut [i64], stats: Stats)
-    requires { ⌜ length (now out) ≡ 6 ⌝ }
+    requires { ⌜ length (now out) ≡ statsSize ⌝ }
     requires { ⌜ Storable stats ⌝ }
     ensures { λ _. ⌜ now (out .exit) ≡ numbers stats ⌝ }
 {
-    let start_error = stats.start_error;
+    let start_error = stats.figures.start_error;
     let error = stats.error;
-    let start_dots = stats.start_dots as i64;
-    let on = stats.on as i64;
-    let off = stats.off as i64;
-    let swaps = stats.swaps as i64;
+    let start_dots = stats.figures.start_dots as i64;
+    let on = stats.figures.on as i64;
+    let off = stats.figures.off as i64;
+    let swaps = stats.figures.swaps as i64;
     out[0] = start_error;
     out[1] = error;
     out[2] = start_dots;

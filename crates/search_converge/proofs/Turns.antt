@@ -9,10 +9,10 @@ use Rattle.model.specs.declared.Measures.{Measures}
 use Rattle.model.specs.declared.Stats.{Stats}
 use Rattle.model.specs.declared.ScanResult.{ScanResult}
 use Rattle.model.specs.Error.{Target, targetFor, cells, filteredErrors, squaredError}
+use Rattle.model.specs.Ledger.{changes}
 use Rattle.model.specs.State.{LaterFits}
 use Rattle.model.specs.Reference.{Reference, reference, statsOf}
 use Rattle.model.specs.Scan.{Rule, toggles, swaps, Sweep, sweep, resultOf, scan, convergeFrom, converge}
-use Rattle.model.specs.Lists.{acceptedBy}
 use Rattle.model.proofs.Attempts.{entry-stats, entry-sound}
 use Rattle.model.proofs.Scan.{Lawful, sweep-later, sweep-counts, sweep-still, sweep-lowers}
 use Rattle.model.proofs.Converge.{converge-again, converge-anew, converge-end}
@@ -53,11 +53,11 @@ module _ (m : Measures) (psf gray : List ℕ) where
   module _ {rule : Rule} {dots : List ℕ} {table : List ℤ} {s : Stats} (f : LaterFits m psf gray dots table s)
       {dots′ : List ℕ} {table′ : List ℤ} {r : ScanResult} (made : Made rule (reference dots s) dots′ table′ r) where
     -- its accepted changes are those counted
-    made-counts : r .changes + acceptedBy (reference dots s) ≡ acceptedBy (reference dots′ (r .stats))
+    made-counts : r .changes + changes (s .figures) ≡ changes (r .stats .figures)
     made-counts =
-        ap (λ k. k + acceptedBy (reference dots s)) (made .changes-are)
+        ap (λ k. k + changes (s .figures)) (made .changes-are)
         ∙ sweep-counts t rule (reference dots s) (cells t)
-        ∙ ap acceptedBy (sym (made .after-is))
+        ∙ ap (λ p. changes (p .figures)) (sym (made .after-is))
 
     -- where there are any, E is lower
     made-lower : (r .changes ≡ 0 → ⊥) → natAbs (r .stats .error) < natAbs (s .error)
@@ -81,7 +81,7 @@ module _ (m : Measures) (psf gray : List ℕ) where
   pub record Turning (p : Reference) (n : ℕ) (dots : List ℕ) (table : List ℤ) (s : Stats) : Type 0 where
     pub fits : LaterFits m psf gray dots table s
     pub ahead : convergeFrom t (m .reach) (reference dots s) n ≡ convergeFrom t (m .reach) p 0
-    pub few : n + 2 * acceptedBy p ≤ 2 * acceptedBy (reference dots s)
+    pub few : n + 2 * changes (p .figures) ≤ 2 * changes (s .figures)
 
   pub turning-first : (dots : List ℕ) (table : List ℤ) (s : Stats) → LaterFits m psf gray dots table s
       → Turning (reference dots s) 0 dots table s

@@ -2,12 +2,12 @@
 ghost use mathlib.Core.Path.{_≡_};
 ghost use Prim.Native.Nat.{_+_, _*_, _^_, _<_, _≤_};
 ghost use lib.Dec.{eqb};
-ghost use lib.IntN.{pos, natAbs, _*ℤ_};
+ghost use lib.IntN.{pos, natAbs, _+ℤ_, _*ℤ_};
 ghost use lib.ListN.{length};
 ghost use Rattle.model.specs.Basic.{pick, AtMost};
-ghost use Rattle.model.specs.Change.{sign, flipped, raised, counted};
+ghost use Rattle.model.specs.Change.{sign, flipped, counted};
 ghost use Rattle.model.specs.Error.{cellAt, mostSquared};
-ghost use Rattle.model.specs.Reference.{onCount, offCount, swapCount};
+ghost use Rattle.model.specs.Ledger.{onCount, offCount, swapCount};
 ghost use Rattle.model.specs.Window.{addWindow, Small, mostFiltered};
 use filter_window::add_window;
 use model::Stats;
@@ -39,38 +39,42 @@ pub fn flip(
     add_window(table, width, height, row, col, 2 * radius, c, amount);
 }
 
-// the ledger with a change: E now gains it, and each count rises by so many
-fn count(stats: Stats, change: i64, on: u64, off: u64, swaps: u64) -> Stats
+// the ledger with a change: E now gains it
+fn move_error(stats: Stats, change: i64) -> Stats
     requires { ⌜ (natAbs (stats .error) ≤ mostSquared) × (natAbs change ≤ 2 ^ 50) ⌝ }
-    requires { ⌜ (stats .on + on < 2 ^ 64) × (stats .off + off < 2 ^ 64) × (stats .swaps + swaps < 2 ^ 64) ⌝ }
-    ensures { λ r. ⌜ r ≡ raised stats change on off swaps ⌝ }
+    ensures { λ r. ⌜ (r .error ≡ stats .error +ℤ change) × (r .figures ≡ stats .figures) ⌝ }
 {
-    Stats {
-        start_error: stats.start_error,
-        error: stats.error + change,
-        start_dots: stats.start_dots,
-        on: stats.on + on,
-        off: stats.off + off,
-        swaps: stats.swaps + swaps,
-    }
+    let error = stats.error + change;
+    let mut moved = stats;
+    moved.error = error;
+    moved
 }
 
-// the ledger after an accepted toggle of a cell whose dot byte was `dot`
+// the ledger after an accepted toggle of a cell whose dot byte was `dot`: a count rises
 pub fn count_toggle(stats: Stats, change: i64, dot: u8) -> Stats
     requires { ⌜ (natAbs (stats .error) ≤ mostSquared) × (natAbs change ≤ 2 ^ 50) ⌝ }
-    requires { ⌜ (stats .on ≤ 2 ^ 44) × (stats .off ≤ 2 ^ 44) ⌝ }
+    requires { ⌜ (stats .figures .on ≤ 2 ^ 44) × (stats .figures .off ≤ 2 ^ 44) ⌝ }
     ensures { λ r. ⌜ r ≡ counted stats change (pick (eqb dot 0) onCount offCount) ⌝ }
 {
+    let mut counted = move_error(stats, change);
     if dot == 0 {
-        return count(stats, change, 1, 0, 0);
+        let on = counted.figures.on + 1;
+        counted.figures.on = on;
+        return counted;
     }
-    count(stats, change, 0, 1, 0)
+    let off = counted.figures.off + 1;
+    counted.figures.off = off;
+    counted
 }
 
 // the ledger after an accepted swap
 pub fn count_swap(stats: Stats, change: i64) -> Stats
-    requires { ⌜ (natAbs (stats .error) ≤ mostSquared) × (natAbs change ≤ 2 ^ 50) × (stats .swaps ≤ 2 ^ 44) ⌝ }
+    requires { ⌜ (natAbs (stats .error) ≤ mostSquared) × (natAbs change ≤ 2 ^ 50) ⌝ }
+    requires { ⌜ stats .figures .swaps ≤ 2 ^ 44 ⌝ }
     ensures { λ r. ⌜ r ≡ counted stats change swapCount ⌝ }
 {
-    count(stats, change, 0, 0, 1)
+    let mut counted = move_error(stats, change);
+    let swaps = counted.figures.swaps + 1;
+    counted.figures.swaps = swaps;
+    counted
 }

@@ -62,16 +62,16 @@ pub fn put_stats(out: &mut [u8], at: usize, result: ConvergeResult) -> usize
     ensures { λ _. ⌜ now (out .exit) ≡ sets (now (out .entry)) at (statsText result) ⌝ }
 {
     let stats = result.stats;
-    let before = whole_of(stats.start_error);
+    let before = whole_of(stats.figures.start_error);
     let after = whole_of(stats.error);
     put_figures(
         out,
         at,
         before,
         after,
-        stats.on as usize,
-        stats.off as usize,
-        stats.swaps as usize,
+        stats.figures.on as usize,
+        stats.figures.off as usize,
+        stats.figures.swaps as usize,
         result.scans as usize,
     )
 }

@@ -10,6 +10,7 @@ ghost use Rattle.model.specs.Calls.{started, startCall};
 use filter_sums::filter_and_square;
 use judge_input::judge_start;
 use judge_parts::sum;
+use model::Figures;
 use model::Measures;
 use model::Started;
 use model::Stats;
@@ -34,12 +35,14 @@ fn begin(
     let error = filter_and_square(width, height, radius, psf, gray, dots, table);
     let count = sum(dots);
     Stats {
-        start_error: error,
         error: error,
-        start_dots: count as u64,
-        on: 0,
-        off: 0,
-        swaps: 0,
+        figures: Figures {
+            start_error: error,
+            start_dots: count as u64,
+            on: 0,
+            off: 0,
+            swaps: 0,
+        },
     }
 }
 

@@ -13,7 +13,8 @@ use mir.Val.{toZ, ofZ}
 use Rattle.algebra.proofs.Machine.{read-back, Holds, of-small, of-cast, sub-fits, sub-holds}
 use Rattle.algebra.proofs.Order.{natAbs-below}
 use Rattle.model.specs.Error.{mostSquared}
-use Rattle.model.specs.State.{changes}
+use Rattle.model.specs.Ledger.{changes}
+use Rattle.model.specs.declared.Figures.{Figures}
 use Rattle.model.specs.declared.Stats.{Stats}
 use Rattle.model.proofs.Refusal.{_nor_}
 use Rattle.model.proofs.State.{same, at-least}
@@ -27,16 +28,16 @@ module _ (c : tie.Else1) where
   begin = c .before .before .before
 
   abbrev first : ℤ
-  first = begin .args .stats .«start_error»
+  first = begin .args .stats .figures .«start_error»
 
   error-is : begin .args .stats .error ≡ begin .args .error
   error-is =
-      sym (read-back w64 (begin .args .stats .error) (c .before .struct-told .given .1 .0 .1))
+      sym (read-back w64 (begin .args .stats .error) (c .before .struct-told .given .0 .1))
       ∙ ap (toZ w64) (c .if1 .left)
       ∙ read-back w64 (begin .args .error) (begin .fits .error .sfits)
 
   first-read : toZ w64 (ofZ w64 first) ≡ first
-  first-read = read-back w64 first (c .before .struct-told .given .0 .1)
+  first-read = search needs
 
   low-is : ltZ (toZ w64 (ofZ w64 first)) (pos 0) ≡ ltZ first (pos 0)
   low-is = ap (λ z. ltZ z (pos 0)) first-read
@@ -55,19 +56,22 @@ module _ (c : tie.Else7) where
   abbrev s : Stats
   s = begin e1 .args .stats
 
-  on-few : s .on ≤ 2 ^ 44
+  abbrev f : Figures
+  f = s .figures
+
+  on-few : f .on ≤ 2 ^ 44
   on-few = e4 .if4 .left
 
-  off-few : s .off ≤ 2 ^ 44
+  off-few : f .off ≤ 2 ^ 44
   off-few = c .before .before .before .before .if5 .left
 
-  swaps-few : s .swaps ≤ 2 ^ 44
+  swaps-few : f .swaps ≤ 2 ^ 44
   swaps-few = c .before .before .if6 .left
 
-  dots-few : s .«start_dots» ≤ begin e1 .args .cells
+  dots-few : f .«start_dots» ≤ begin e1 .args .cells
   dots-few = c .if7 .left
 
-  start-few : s .«start_dots» ≤ 2 ^ 44
+  start-few : f .«start_dots» ≤ 2 ^ 44
   start-few = omega (arith, begin e1 .pre .0, dots-few)
 
   total-few : begin e1 .args .dots ≤ 2 ^ 44
@@ -88,19 +92,19 @@ module _ (c : tie.Else7) where
       let (_, _, least, most) = begin e1 .pre in
       of-small w64 (s .error) (rw (error-is e1) (natAbs-below _ mostSquared least most)) (lit< tt)
 
-  changes-held : Holds w64 (255 * changes s) (pos (255 * changes s)) 13458022323978240
-  changes-held = of-cast w64 (255 * changes s) (omega (arith, on-few, off-few, swaps-few)) (lit< tt)
+  changes-held : Holds w64 (255 * changes f) (pos (255 * changes f)) 13458022323978240
+  changes-held = of-cast w64 (255 * changes f) (omega (arith, on-few, off-few, swaps-few)) (lit< tt)
 
   -- the difference and the product of the last test
   fall-is : ltZ (toZ w64 (ofZ w64 (toZ w64 (ofZ w64 (first e1)) -ℤ toZ w64 (ofZ w64 (s .error)))))
-      (toZ w64 (255 * changes s))
-      ≡ ltZ (first e1 -ℤ s .error) (pos (255 * changes s))
+      (toZ w64 (255 * changes f))
+      ≡ ltZ (first e1 -ℤ s .error) (pos (255 * changes f))
   fall-is = ap₂ ltZ (sub-holds first-held error-held (lit< tt) .value) (changes-held .value)
 
 -- once all is judged
 fall : (c : tie.Else9)
     → (let e7 = c .before .before .before .before .before .before .before .before in
-    ltZ (first (e1 e7) -ℤ s e7 .error) (pos (255 * changes (s e7))) ≡ false)
+    ltZ (first (e1 e7) -ℤ s e7 .error) (pos (255 * changes (f e7))) ≡ false)
 fall c = sym (fall-is (c .before .before .before .before .before .before .before .before)) ∙ c .if9 .left
 
 returns : tie.Need-returns

@@ -9,7 +9,8 @@ use lib.ListN.{length, getD}
 use mir.Syntax.{w32}
 use mir.Val.{toZ, ofZ}
 use Rattle.algebra.proofs.Machine.{read-back}
-use Rattle.model.specs.State.{unequal, someBelow}
+use Rattle.model.specs.Ledger.{unequal}
+use Rattle.model.specs.State.{someBelow}
 use Rattle.model.proofs.State.{same}
 use Rattle.judge_ledger.proofs.Tests.{apart}
 use Rattle.judge_state.proofs.Fresh.{below-here, below-next}

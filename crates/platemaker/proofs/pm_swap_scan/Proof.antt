@@ -1,7 +1,7 @@
 -- `platemaker::pm_swap_scan` meets its contract: the slice is refused, or the call is made and its answer laid out.
 use borrow.Author.Needs.{needs}
 use Rattle.platemaker.proofs.Ledgers.{swap-scan-storable}
-use Rattle.platemaker.proofs.Laid.{slice-six, to-lay, slice-refused, slice-taken}
+use Rattle.platemaker.proofs.Laid.{slice-sized, to-lay, slice-refused, slice-taken}
 use Rattle.platemaker.proofs.pm_swap_scan.Statement.{statement}
 use Rattle.platemaker.proofs.pm_swap_scan.Tie as tie
 
@@ -17,7 +17,7 @@ returns c = slice-refused _ _ _ _ _ _ _ _ _ _ (c .before .judge-slice .ensures) 
 stats-of-requires : tie.Need-stats-of-requires
 stats-of-requires c κs =
     let e = c .before in
-    slice-six _ _ (e .before .judge-slice .ensures) (e .if1 .left)
+    slice-sized _ _ (e .before .judge-slice .ensures) (e .if1 .left)
 
 swap-scan-requires : tie.Need-swap-scan-requires
 swap-scan-requires c κs = search needs

@@ -39,7 +39,7 @@ returns c =
     let k3 = c .before .before in
     let k2 = k3 .before .before in
     let k1 = k2 .before .before in
-    stats-read _ (k1 .before .before .before .t3 .given) (k1 .before .before .t5 .given)
+    stats-read _ (k1 .before .before .t5 .given) (k1 .before .before .before .t3 .given)
     (k1 .before .count-of-arg .given) (k2 .before .count-of-arg2 .given)
     (k3 .before .count-of-arg3 .given) (c .before .count-of-arg4 .given)
     (k1 .count-of .ensures) (k2 .count-of2 .ensures) (k3 .count-of3 .ensures) (c .count-of4 .ensures)

@@ -1,10 +1,10 @@
--- `platemaker_numbers::store_stats` meets its contract: six stores fill a slice of six numbers, and each count fits.
+-- `platemaker_numbers::store_stats` meets its contract: the stores fill the slice, and each count fits.
 use native.Mathlib.Omega.{arith}
 use borrow.Author.Needs.{needs}
 use lib.ListN.{length-set}
 use mir.Facts.{toZ-pos}
 use mir.Syntax.{w64}
-use Rattle.platemaker_numbers.proofs.Slices.{held-whole, numbers-stored}
+use Rattle.platemaker_numbers.proofs.Slices.{numbers-stored}
 use Rattle.platemaker_numbers.proofs.store_stats.Statement.{statement}
 use Rattle.platemaker_numbers.proofs.store_stats.Tie as tie
 
@@ -46,8 +46,7 @@ returns c =
     let k = c .before .before .before .before in
     let s = k .before .before in
     let (dots, on, off, swaps) = s .pre .1 in
-    numbers-stored (s .args .out .now) (s .args .stats) (s .pre .0)
-    (held-whole (k .before .struct-told .given .0 .1)) (held-whole (k .struct-told2 .given .1 .0 .1))
+    numbers-stored (s .args .out .now) (s .args .stats) (s .pre .0) (search needs) (search needs)
     (toZ-pos w64 dots) (toZ-pos w64 on) (toZ-pos w64 off) (toZ-pos w64 swaps)
 
 pub store-stats-spec : {M : Type 1} → statement M

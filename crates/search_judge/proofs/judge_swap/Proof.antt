@@ -10,7 +10,8 @@ use Rattle.algebra.proofs.Grid.{cell<}
 use Rattle.algebra.proofs.Machine.{factors-fit}
 use Rattle.model.specs.Error.{cellAt}
 use Rattle.model.specs.Refusal.{Refusal, firstOf, badCells, badPair, HalftoneFits, inputRefusals}
-use Rattle.model.specs.State.{badTable, wrongStats, badLike, stateRefusals, swapRefusal}
+use Rattle.model.specs.Ledger.{wrongStats}
+use Rattle.model.specs.State.{badTable, badLike, stateRefusals, swapRefusal}
 use Rattle.model.proofs.Refusal.{none, by-first, by-either, by-second, plate-fits}
 use Rattle.model.proofs.Later.{cells-inside}
 use Rattle.filter_window.proofs.Rows.{index-fits}

@@ -59,8 +59,10 @@ module _ (k : tie.After-slice-known) where
 
 count-swap-requires : tie.Need-count-swap-requires
 count-swap-requires c κs = (
-  error-small _ _ _ _ _ _ (fits c) (bytes c),
-  subst (λ (z : ℤ). natAbs z ≤ 2 ^ 50) (sym (back c)) (s c .pre .1 .1 .1 .1 .1 .1),
+  (
+    error-small _ _ _ _ _ _ (fits c) (bytes c),
+    subst (λ (z : ℤ). natAbs z ≤ 2 ^ 50) (sym (back c)) (s c .pre .1 .1 .1 .1 .1 .1),
+  ),
   fits c .state .swaps-few,
 )
 

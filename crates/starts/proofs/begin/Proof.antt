@@ -36,12 +36,9 @@ returns c =
     let k = c .before .before in (
       k .filter-and-square .ensures .0,
       λ i. record {
-        «start_error» = error-is k i;
         error = error-is k i;
-        «start_dots» = c .sum .ensures i;
-        on = 0;
-        off = 0;
-        swaps = 0;
+        figures =
+            record { «start_error» = error-is k i; «start_dots» = c .sum .ensures i; on = 0; off = 0; swaps = 0 };
       },
     )
 
