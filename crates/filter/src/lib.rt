@@ -10,7 +10,7 @@ use model::SquaredError;
 // The (4r + 1)² values of the autocorrelation of a psf of radius r, row by row, into `out`.
 pub fn autocorrelation(radius: usize, psf: &[u8], out: &mut [i32]) -> Filled
     ensures { λ r. ⌜ filled r ≡ autocorrelationCall radius (now (psf .entry)) (now (out .entry)) .reply ⌝ }
-    ensures { λ r. ⌜ now (out .exit) ≡ autocorrelationCall radius (now (psf .entry)) (now (out .entry)) .buffer ⌝ }
+    ensures { λ r. ⌜ now (out .exit) ≡ autocorrelationCall radius (now (psf .entry)) (now (out .entry)) .left ⌝ }
 {
     let number = judge_autocorrelation(radius, psf, out.len());
     if number != 0 {
@@ -33,7 +33,7 @@ pub fn filtered_error(
     ensures { λ r. ⌜ filled r ≡ filteredErrorCall width height radius
         (now (psf .entry)) (now (gray .entry)) (now (dots .entry)) (now (table .entry)) .reply ⌝ }
     ensures { λ r. ⌜ now (table .exit) ≡ filteredErrorCall width height radius
-        (now (psf .entry)) (now (gray .entry)) (now (dots .entry)) (now (table .entry)) .buffer ⌝ }
+        (now (psf .entry)) (now (gray .entry)) (now (dots .entry)) (now (table .entry)) .left ⌝ }
 {
     let number = judge_halftone(width, height, radius, psf, gray, dots, table.len());
     if number != 0 {

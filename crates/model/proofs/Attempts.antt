@@ -193,17 +193,17 @@ module _ (m : Measures) (psf gray dots : List ℕ) (table : List ℤ) (s : Stats
   by-call : (number : ℕ) (v : Move) (answer : Tried)
       → (number ≡ 0 → LaterFits m psf gray dots table s × Legal target dots v)
       → laterCall number target dots table (attempt target (reference dots s) v) .reply ≡ result answer
-      → Tries m psf gray dots table s v answer (laterCall number target dots table (attempt target (reference dots s) v) .buffer)
+      → Tries m psf gray dots table s v answer (laterCall number target dots table (attempt target (reference dots s) v) .left)
   unfolding laterCall
   by-call number v answer enters e =
       let (taken, value, same) = was-done _ _ number refl e in
       let (fits, legal) = enters taken in
-      subst (λ o. Tries m psf gray dots table s v answer (o .buffer)) same
+      subst (λ o. Tries m psf gray dots table s v answer (o .left)) same
       (subst (λ a. Tries m psf gray dots table s v a (withTable target (attempt target (reference dots s) v .after .dots))) value (tries v fits legal))
 
   pub toggle-tries : (row col : ℕ) (answer : Tried)
       → toggleCall m psf gray dots table s row col .reply ≡ result answer
-      → Tries m psf gray dots table s (toggle dots (cellAt (m .width) row col)) answer (toggleCall m psf gray dots table s row col .buffer)
+      → Tries m psf gray dots table s (toggle dots (cellAt (m .width) row col)) answer (toggleCall m psf gray dots table s row col .left)
   unfolding toggleCall
   toggle-tries row col answer =
       by-call (toggleRefusal m psf gray dots table s row col) (toggle dots (cellAt (m .width) row col)) answer
@@ -212,7 +212,7 @@ module _ (m : Measures) (psf gray dots : List ℕ) (table : List ℤ) (s : Stats
   pub swap-tries : (row col row′ col′ : ℕ) (answer : Tried)
       → swapCall m psf gray dots table s row col row′ col′ .reply ≡ result answer
       → Tries m psf gray dots table s (swap dots (cellAt (m .width) row col) (cellAt (m .width) row′ col′)) answer
-      (swapCall m psf gray dots table s row col row′ col′ .buffer)
+      (swapCall m psf gray dots table s row col row′ col′ .left)
   unfolding swapCall
   swap-tries row col row′ col′ answer =
       by-call (swapRefusal m psf gray dots table s row col row′ col′)

@@ -9,22 +9,22 @@ use Rattle.model.specs.Calls.{Reply, result, refused, Outcome, unless, B
 -- the value of a result
 abbrev valueOr : {A : Type 0} → A → Reply A → A
 valueOr a (result b) = b
-valueOr a (refused n) = a
+valueOr a (refused n o) = a
 
 abbrev IsResult : {A : Type 0} → Reply A → Type 0
 IsResult (result a) = Unit {0}
-IsResult (refused n) = ⊥
+IsResult (refused n o) = ⊥
 
 module _ {A B : Type 0} (b : B) (o : Outcome A B) where
   -- the number answered is the one that the judge found, and the buffer is as it was
   pub is-refused : (n : ℕ) {x : ℕ} → x ≡ n → (x ≡ 0 → ⊥)
-      → (refused x ≡ unless n b o .reply) × (b ≡ unless n b o .buffer)
+      → (refused x 0 ≡ unless n b o .reply) × (b ≡ unless n b o .left)
   is-refused zero e h = absurd (h e)
-  is-refused (suc n) e h = (ap refused e, refl)
+  is-refused (suc n) e h = (ap (λ k. refused k 0) e, refl)
 
   -- what is answered and left is the outcome's
-  pub is-done : (n : ℕ) {b′ : B} → n ≡ 0 → b′ ≡ o .buffer
-      → (o .reply ≡ unless n b o .reply) × (b′ ≡ unless n b o .buffer)
+  pub is-done : (n : ℕ) {b′ : B} → n ≡ 0 → b′ ≡ o .left
+      → (o .reply ≡ unless n b o .reply) × (b′ ≡ unless n b o .left)
   is-done zero e f = (refl, f)
   is-done (suc n) e f = absurd (omega arith)
 
@@ -47,14 +47,14 @@ module _ {A : Type 0} (dots : List ℕ) (table : List ℤ) (o : Outcome A Buffer
 
   abbrev Left : Reply A → List ℕ → List ℤ → Type 0
   Left r d t =
-      (r ≡ unless n handed o .reply) × ((d ≡ unless n handed o .buffer .dots) × (t ≡ unless n handed o .buffer .table))
+      (r ≡ unless n handed o .reply) × ((d ≡ unless n handed o .left .dots) × (t ≡ unless n handed o .left .table))
 
-  pub both-refused : {x : ℕ} → x ≡ n → (x ≡ 0 → ⊥) → Left (refused x) dots table
+  pub both-refused : {x : ℕ} → x ≡ n → (x ≡ 0 → ⊥) → Left (refused x 0) dots table
   both-refused e h =
       let (reply, left) = is-refused handed o n e h in
       (reply, (ap (λ b. b .dots) left, ap (λ b. b .table) left))
 
-  pub both-done : {d : List ℕ} {t : List ℤ} → n ≡ 0 → d ≡ o .buffer .dots → t ≡ o .buffer .table → Left (o .reply) d t
+  pub both-done : {d : List ℕ} {t : List ℤ} → n ≡ 0 → d ≡ o .left .dots → t ≡ o .left .table → Left (o .reply) d t
   both-done taken e f =
       let (reply, left) = is-done handed o n taken refl in
       (reply, (e ∙ ap (λ b. b .dots) left, f ∙ ap (λ b. b .table) left))

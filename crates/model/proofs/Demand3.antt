@@ -101,7 +101,7 @@ module _ (m : Measures) (psf gray : List ℕ) where
   pub demand-3 : (dots : List ℕ) (table : List ℤ) (s : Stats) → AtMost 255 gray
       → startCall m psf gray dots table .reply ≡ result s
       → (l : List Call)
-      → (let begun = startCall m psf gray dots table .buffer in
+      → (let begun = startCall m psf gray dots table .left in
       Demand3 m psf gray (startDots m gray dots) (record { dots = begun .dots; table = begun .table; stats = s }) l)
   unfolding startCall begin statsOf freshStats
   demand-3 dots table s bytes e l =
@@ -109,7 +109,7 @@ module _ (m : Measures) (psf gray : List ℕ) where
       let t = targetFor m psf gray in
       let (taken, value, same) = was-done _ _ (startRefusal m psf gray dots (length table)) refl e in
       subst (λ o.
-      Demand3 m psf gray first (record { dots = o .buffer .dots; table = o .buffer .table; stats = s }) l) same
+      Demand3 m psf gray first (record { dots = o .left .dots; table = o .left .table; stats = s }) l) same
       (subst (λ s. Demand3 m psf gray first (record { dots = first; table = filteredErrors t first; stats = s }) l) value
       (from-start first (start-later m psf gray dots (length table) bytes taken) l))
 

@@ -34,7 +34,7 @@ twice : {A B : Type 0} (b : B) (p : Outcome A B) (n k : ℕ) → ((n ≡ 0 → �
     → unless n b (unless k b p) ≡ unless k b p
 twice b p zero k h = refl
 twice b p (suc n) k h =
-    subst (λ j. record { reply = refused (suc n); buffer = b } ≡ unless j b p) (h (λ e. absurd (omega arith))) refl
+    subst (λ j. record { reply = refused (suc n) 0; left = b } ≡ unless j b p) (h (λ e. absurd (omega arith))) refl
 
 -- of a slice of that size only 1 to 4 are drawn
 slice-draws : (m : Measures) (stats : List ℤ) → length stats ≡ statsSize
@@ -102,20 +102,20 @@ module _ (m : Measures) (psf gray dots : List ℕ) (table stats : List ℤ) wher
   call-is-told : (number : ℕ) (v : Move) (a : Tried) → (number ≡ 0 → table ≡ filteredErrors t dots)
       → (let o = overStats m psf gray dots table stats
       (laterCall number t dots table (attempt t (reference dots (statsIn stats)) v)) in
-      o .reply ≡ result a → Told dots table stats a (o .buffer))
+      o .reply ≡ result a → Told dots table stats a (o .left))
   unfolding overStats laterCall
   call-is-told number v a fresh e =
       let p = reference dots (statsIn stats) in
       let (_, outer) = was-taken _ _ (sliceRefusal m stats) e in
       let (taken, value, inner) = was-done _ _ number refl (ap (λ o. o .reply) outer ∙ e) in
-      subst (λ o. Told dots table stats a (o .buffer)) (inner ∙ outer)
+      subst (λ o. Told dots table stats a (o .left)) (inner ∙ outer)
       (subst (λ a. Told dots table stats a (withTable t (attempt t p v .after .dots))) value
       (subst (λ T. Told dots T stats (attempt t p v .answer) (withTable t (attempt t p v .after .dots)))
       (sym (fresh taken)) (attempt-is-told t stats p v)))
 
   pub toggle-is-told : (row col : ℕ) (a : Tried)
       → (let o = toggleOver m psf gray dots table stats row col in
-      o .reply ≡ result a → Told dots table stats a (o .buffer))
+      o .reply ≡ result a → Told dots table stats a (o .left))
   unfolding toggleCall
   toggle-is-told row col a =
       call-is-told (toggleRefusal m psf gray dots table (statsIn stats) row col)
@@ -124,7 +124,7 @@ module _ (m : Measures) (psf gray dots : List ℕ) (table stats : List ℤ) wher
 
   pub swap-is-told : (row col row′ col′ : ℕ) (a : Tried)
       → (let o = swapOver m psf gray dots table stats row col row′ col′ in
-      o .reply ≡ result a → Told dots table stats a (o .buffer))
+      o .reply ≡ result a → Told dots table stats a (o .left))
   unfolding swapCall
   swap-is-told row col row′ col′ a =
       call-is-told (swapRefusal m psf gray dots table (statsIn stats) row col row′ col′)
@@ -141,20 +141,20 @@ stats-after s (result (tried (accepted s′ d))) = refl
 stats-after s (result (tried (declined d))) = refl
 stats-after s (result (swept r)) = refl
 stats-after s (result (rested r)) = refl
-stats-after s (refused n) = refl
+stats-after s (refused n o) = refl
 
 leave-over : (h : Held) (o : Outcome Result Buffers) → leave (slicesOf h) o ≡ slicesOf (handOn h o)
 leave-over h o =
-    ap (λ l. record { dots = o .buffer .dots; table = o .buffer .table; stats = l })
+    ap (λ l. record { dots = o .left .dots; table = o .left .table; stats = l })
     (stats-after (h .stats) (o .reply))
 
 pub run-over : (m : Measures) (psf gray : List ℕ) (h : Held) (l : List Call)
     → (let r = run m psf gray h l in runOver m psf gray (slicesOf h) l ≡ (r .0, slicesOf (r .1)))
 unfolding statsIn
 run-over m psf gray h l =
-    runs-alike (λ h c. let o = callOver m psf gray h c in record { reply = o .reply; buffer = leave h o })
+    runs-alike (λ h c. let o = callOver m psf gray h c in record { reply = o .reply; left = leave h o })
     (callNext m psf gray) slicesOf (λ h. Unit {0}) (λ h c k. (
-      ap (λ o. record { reply = o .reply; buffer = leave (slicesOf h) o }) (call-over m psf gray (slicesOf h) c refl)
-          ∙ ap (λ s. record { reply = call m psf gray h c .reply; buffer = s }) (leave-over h (call m psf gray h c)),
+      ap (λ o. record { reply = o .reply; left = leave (slicesOf h) o }) (call-over m psf gray (slicesOf h) c refl)
+          ∙ ap (λ s. record { reply = call m psf gray h c .reply; left = s }) (leave-over h (call m psf gray h c)),
       tt,
     )) h l tt .0

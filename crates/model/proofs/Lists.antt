@@ -30,15 +30,15 @@ module _ {C R S S′ : Type 0} (make : S → C → Outcome R S) (make′ : S′ 
     (Kept : S′ → Type 0) where
   -- where each call answers alike, and leaves alike by what stands for what, so does a list of them
   pub runs-alike : ((p : S′) (c : C) → Kept p
-      → (make (of p) c ≡ record { reply = make′ p c .reply; buffer = of (make′ p c .buffer) }) × Kept (make′ p c .buffer))
+      → (make (of p) c ≡ record { reply = make′ p c .reply; left = of (make′ p c .left) }) × Kept (make′ p c .left))
       → (p : S′) (l : List C) → Kept p
       → (runBy make (of p) l ≡ (runBy make′ p l .0, of (runBy make′ p l .1))) × Kept (runBy make′ p l .1)
   unfolding runBy
   runs-alike each p [] k = (refl, k)
   runs-alike each p (c ∷ l) k =
       let (same, kept) = each p c k in
-      let (rest, last) = runs-alike each (make′ p c .buffer) l kept in (
-        ap (λ o. let r = runBy make (o .buffer) l in (o .reply ∷ r .0, r .1)) same
+      let (rest, last) = runs-alike each (make′ p c .left) l kept in (
+        ap (λ o. let r = runBy make (o .left) l in (o .reply ∷ r .0, r .1)) same
             ∙ ap (λ r. (make′ p c .reply ∷ r .0, r .1)) rest,
         last,
       )
@@ -66,7 +66,7 @@ module _ (t : Target) (p : Reference) where
 
   -- ---- a call and the reference, side by side: refused alike, or both done
   abbrev Same : Outcome Result Buffers → Outcome Result Reference → Type 0
-  Same o r = (o .reply ≡ r .reply) × (handOn (heldOf t p) o ≡ heldOf t (r .buffer))
+  Same o r = (o .reply ≡ r .reply) × (handOn (heldOf t p) o ≡ heldOf t (r .left))
 
   same-by : {A : Type 0} (f : A → Result) (done : Performed A) {n k : ℕ} → n ≡ k → Counted f done
       → Same (outcome f (laterCall n t (p .dots) (filteredErrors t (p .dots)) done)) (unless k p (replied f done))
@@ -125,7 +125,7 @@ module _ (m : Measures) (psf gray : List ℕ) where
       scan-keeps rule lawful = sweep-keeps t rule lawful p halftone P keep h (cells t) (le-refl (cells t))
 
       -- a call that is not refused
-      does-keeps : (c : Call) → firstOf (asks (asked m (p .dots) c)) ≡ 0 → P (does m psf gray p c .buffer)
+      does-keeps : (c : Call) → firstOf (asks (asked m (p .dots) c)) ≡ 0 → P (does m psf gray p c .left)
       unfolding converge toggleRefusal swapRefusal
       does-keeps (toggleAt row col) e =
           attempt-keeps _
@@ -139,11 +139,11 @@ module _ (m : Measures) (psf gray : List ℕ) where
       does-keeps swapScan e = scan-keeps (swaps t (m .reach)) (swaps-lawful t (m .reach))
       does-keeps convergence e = converge-keeps t (m .reach) (f .plate .halftone .wide .0) P keep p 0 halftone h
 
-      call-keeps : (c : Call) → P (referenceCall m psf gray p c .buffer)
+      call-keeps : (c : Call) → P (referenceCall m psf gray p c .left)
       call-keeps c = go (firstOf (asks (asked m (p .dots) c))) refl
         where
           go : (n : ℕ) → firstOf (asks (asked m (p .dots) c)) ≡ n
-              → P (unless n p (does m psf gray p c) .buffer)
+              → P (unless n p (does m psf gray p c) .left)
           go zero e = does-keeps c e
           go (suc n) e = h
 
@@ -176,7 +176,7 @@ module _ (m : Measures) (psf gray : List ℕ) where
         let (same, (sound, kept))
         = runs-alike (callNext m psf gray) (referenceCall m psf gray) (heldOf t)
         (λ p. Sound m psf gray p × P p) (λ p c (f, h). (
-          (let (reply, next) = call-same p f c in λ i. record { reply = reply i; buffer = next i }),
+          (let (reply, next) = call-same p f c in λ i. record { reply = reply i; left = next i }),
           (call-keeps p f (Sound m psf gray) (sound-kept m psf gray) f c, call-keeps p f P keep h c),
         )) p l (f, h) in
         record { same = same; sound = sound; kept = kept }
@@ -210,4 +210,4 @@ module _ (m : Measures) (psf gray : List ℕ) where
   pub run-expected : (p : Reference) (l : List Call) → All Expected (referenceRun m psf gray p l .0)
   unfolding runBy
   run-expected p [] = tt
-  run-expected p (c ∷ l) = (call-expected p c, run-expected (referenceCall m psf gray p c .buffer) l)
+  run-expected p (c ∷ l) = (call-expected p c, run-expected (referenceCall m psf gray p c .left) l)

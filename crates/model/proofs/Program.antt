@@ -15,7 +15,8 @@ use Rattle.model.specs.Text.{digits}
 use Rattle.model.specs.Sheet.{Sheet, sideOf, entriesOf, cellsOf, row, rows, names, psfName, grayName, dotsName}
 use Rattle.model.specs.Sheet.{valuesOf, dotsText, sheetText, Shaped, InRange, Valid, gridLength, roomFor}
 use Rattle.model.specs.Format.{Read, readSheet}
-use Rattle.model.specs.SheetCalls.{result, refused, ReadOutcome, outcomeOf, readCall}
+use Rattle.model.specs.SheetCalls.{SheetBuffers, outcomeOf, readCall}
+use Rattle.model.specs.Calls.{result, refused, Outcome}
 use Rattle.model.specs.Program.{refusedText, processedText, handedDots, readText, output}
 use Rattle.model.proofs.Basic.{at-most-tail}
 use Rattle.model.proofs.Text.{length-most, and-true}
@@ -170,9 +171,9 @@ module _ (s : Sheet) (v : Valid s) (room : roomFor (s .measures) 49 4096 4096 �
   text-is = rw (psf-front, gray-front, dots-front)
 
 -- what is handed on of an outcome
-abbrev Handed : List ℕ → ReadOutcome → Measures → Type 0
+abbrev Handed : List ℕ → Outcome Measures SheetBuffers → Measures → Type 0
 Handed b o m =
-    (output b ≡ processedText m (take (entriesOf m) (o .psf)) (take (cellsOf m) (o .gray)) (take (cellsOf m) (o .dots))
+    (output b ≡ processedText m (take (entriesOf m) (o .left .psf)) (take (cellsOf m) (o .left .gray)) (take (cellsOf m) (o .left .dots))
     (replicate (cellsOf m) (pos 0)))
     × InRange m
     × (entriesOf m ≤ 49)
@@ -182,7 +183,7 @@ module _ (b : List ℕ) (short : length b ≤ 32768) where
   abbrev r : Read
   r = readSheet b 49 4096 4096
 
-  abbrev outcome : ReadOutcome
+  abbrev outcome : Outcome Measures SheetBuffers
   outcome = outcomeOf r emptyPsf emptyCells emptyCells
 
   outcome-is : readCall b emptyPsf emptyCells emptyCells ≡ outcome

@@ -19,9 +19,10 @@ use Rattle.model.specs.Sheet.{dotsName, valuesOf, dotsText, sheetText, S
 use Rattle.model.specs.Format.{Part, fixed, number, grid, block, head, psfBlock, grayBlock, dotsBlock, body}
 use Rattle.model.specs.Format.{textOf, Parsed, parse, measuresOf, headOf, sheetOf, Read, refusedAt, bodyEnd}
 use Rattle.model.specs.Format.{readSheet}
-use Rattle.model.specs.SheetCalls.{result, refused, readCall, WriteOutcome, withGiven, writtenSheet, writeText}
-use Rattle.model.specs.SheetCalls.{unlessRefused, writeCall}
+use Rattle.model.specs.Calls.{result, refused, Outcome}
+use Rattle.model.specs.SheetCalls.{readCall, withGiven, writtenSheet, writeText, writeCall}
 use Rattle.model.proofs.Basic.{pick-cases, zero-cases, at-most-tail}
+use Rattle.model.proofs.Calls.{was-taken}
 use Rattle.model.proofs.Refusal.{none, size-inside, none-above, alike}
 use Rattle.model.proofs.Rows.{text-grid, rows-grid}
 use Rattle.model.proofs.Format.{numbers, Inside, inside-length, good-head, good-body, text-append, values-length}
@@ -433,27 +434,23 @@ front l vs n e h = ap (take n) (sets-eq vs l 0 (omega arith)) ∙ take-at vs (dr
 
 -- a result is that of the whole text
 text-whole : (text out : List ℕ) (k : ℕ) → let w = writeText text out in
-    w .reply ≡ result k → (k ≡ length text) × (take k (w .out) ≡ text)
+    w .reply ≡ result k → (k ≡ length text) × (take k (w .left) ≡ text)
 text-whole text out k =
-    pick-cases (λ (w : WriteOutcome). w .reply ≡ result k → (k ≡ length text) × (take k (w .out) ≡ text))
+    pick-cases (λ (w : Outcome ℕ (List ℕ)). w .reply ≡ result k → (k ≡ length text) × (take k (w .left) ≡ text))
     (leb (length text) (length out)) (λ t n.
     let l : length text ≡ k = cc in
     (sym l, front out text k l (omega (arith, leb-true (length text) (length out) t)))) (λ t n. done-refused (sym n))
-
-unrefused : (n : ℕ) (out : List ℕ) (w : WriteOutcome) (k : ℕ) → unlessRefused n out w .reply ≡ result k → n ≡ 0
-unrefused zero out w k e = refl
-unrefused (suc n) out w k e = done-refused (sym e)
 
 -- a written sheet is its whole text, and valid
 module _ (m : Measures) (psf gray dots out : List ℕ) (k : ℕ) (done : writeCall m psf gray dots out .reply ≡ result k)
     (psf-most : AtMost 255 psf) (gray-most : AtMost 255 gray) where
   pub written-whole : let s = writtenSheet m psf gray dots in
-      (k ≡ length (sheetText s)) × (take k (writeCall m psf gray dots out .out) ≡ sheetText s) × Valid s
+      (k ≡ length (sheetText s)) × (take k (writeCall m psf gray dots out .left) ≡ sheetText s) × Valid s
   unfolding writeCall
   written-whole =
       let s = writtenSheet m psf gray dots in
       let w = writeText (sheetText s) out in
-      let z = unrefused (writeRefusal m psf gray dots) out w k done in
+      let (z, _) = was-taken out w (writeRefusal m psf gray dots) done in
       let (l, t) = text-whole (sheetText s) out k (rw z at done) in
       let (r, h) = written-shaped m psf gray dots z in
       rw z (
@@ -470,15 +467,15 @@ module _ (m : Measures) (psf gray dots out : List ℕ) (k : ℕ) (done : writeCa
 
   -- and it reads back as what was written, with start 2
   pub written-back : (pb gb db : List ℕ) → roomFor (withGiven m) (length pb) (length gb) (length db) ≡ true
-      → let r = readCall (take k (writeCall m psf gray dots out .out)) pb gb db in
+      → let r = readCall (take k (writeCall m psf gray dots out .left)) pb gb db in
       (r .reply ≡ result (withGiven m))
-      × (r .psf ≡ sets pb 0 psf)
-      × (r .gray ≡ sets gb 0 gray)
-      × (r .dots ≡ sets db 0 dots)
+      × (r .left .psf ≡ sets pb 0 psf)
+      × (r .left .gray ≡ sets gb 0 gray)
+      × (r .left .dots ≡ sets db 0 dots)
   unfolding readCall
   written-back pb gb db f =
       let s = writtenSheet m psf gray dots in
       let (_, t, v) = written-whole in
-      let b = take k (writeCall m psf gray dots out .out) in
+      let b = take k (writeCall m psf gray dots out .left) in
       let (z, e) = read-back b (length pb) (length gb) (length db) s t v f in
       rw (eq-eqb (readSheet b (length pb) (length gb) (length db) .refusal) 0 z, e) (refl, refl, refl, refl)

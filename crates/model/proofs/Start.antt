@@ -24,9 +24,9 @@ use Rattle.model.proofs.Later.{fits-later}
 -- ---- the answer and the buffers
 module _ (m : Measures) (psf gray dots : List ℕ) (table : List ℤ) where
   pub start-refused : {x : ℕ} → x ≡ startRefusal m psf gray dots (length table) → (x ≡ 0 → ⊥)
-      → (refused x ≡ startCall m psf gray dots table .reply)
-      × ((dots ≡ startCall m psf gray dots table .buffer .dots)
-      × (table ≡ startCall m psf gray dots table .buffer .table))
+      → (refused x 0 ≡ startCall m psf gray dots table .reply)
+      × ((dots ≡ startCall m psf gray dots table .left .dots)
+      × (table ≡ startCall m psf gray dots table .left .table))
   unfolding startCall
   start-refused e h = both-refused dots table _ (startRefusal m psf gray dots (length table)) e h
 
@@ -36,8 +36,8 @@ module _ (m : Measures) (psf gray dots : List ℕ) (table : List ℤ) where
       → t ≡ filteredErrors (targetFor m psf gray) d
       → s ≡ freshStats (targetFor m psf gray) d
       → (result s ≡ startCall m psf gray dots table .reply)
-      × ((d ≡ startCall m psf gray dots table .buffer .dots)
-      × (t ≡ startCall m psf gray dots table .buffer .table))
+      × ((d ≡ startCall m psf gray dots table .left .dots)
+      × (t ≡ startCall m psf gray dots table .left .table))
   unfolding startCall
   start-done taken e f g =
       let (reply, left)
@@ -91,10 +91,10 @@ module _ (m : Measures) (psf gray : List ℕ) where
 
   pub start-begins : (dots : List ℕ) (table : List ℤ) (s : Stats) → AtMost 255 gray
       → startCall m psf gray dots table .reply ≡ result s
-      → Begun m psf gray (startCall m psf gray dots table .buffer) s
+      → Begun m psf gray (startCall m psf gray dots table .left) s
   unfolding startCall
   start-begins dots table s bytes e =
       let (taken, value, same) = was-done _ _ (startRefusal m psf gray dots (length table)) refl e in
-      subst (λ o. Begun m psf gray (o .buffer) s) same
+      subst (λ o. Begun m psf gray (o .left) s) same
       (subst (Begun m psf gray (withTable (targetFor m psf gray) (startDots m gray dots))) value
       (start-begun dots (length table) bytes taken))

@@ -1,4 +1,4 @@
--- Each public call as a function from what it is handed to its answer and to what its buffer holds at exit.
+-- Each public call as a function from what it is handed to its answer and to what it leaves in what it was lent.
 use mathlib.Core.List.{List, [], _∷_}
 use Prim.Native.Nat.{ℕ, zero, suc}
 use lib.IntN.{ℤ}
@@ -28,63 +28,63 @@ use Rattle.model.specs.Reference.{toggle, swap, Reference, reference, ac
 use Rattle.model.specs.Reference.{Tried, accepted, declined, Performed, attempt}
 use Rattle.model.specs.Scan.{toggles, swaps, scan, converge}
 
--- what an answer says: a result, or document 01's number
+-- what an answer says: a result, or document 01's number with a byte offset, 0 where there is no place
 pub data Reply (A : Type 0) : Type 0 where
   result : A → Reply A
-  refused : ℕ → Reply A
+  refused : (number at : ℕ) → Reply A
 
 -- the number and the values of each case of the answers in the code
 abbrev pub filled : Filled → Reply (Unit {0})
 filled Filled.Done = result tt
-filled (Filled.Refused n) = refused n
+filled (Filled.Refused n) = refused n 0
 
 abbrev pub valued : SquaredError → Reply ℤ
 valued (SquaredError.Value e) = result e
-valued (SquaredError.Refused n) = refused n
+valued (SquaredError.Refused n) = refused n 0
 
 abbrev pub started : Started → Reply Stats
 started (Started.Fresh s) = result s
-started (Started.Refused n) = refused n
+started (Started.Refused n) = refused n 0
 
 abbrev pub attempted : Attempt → Reply Tried
 attempted (Attempt.Accepted s d) = result (accepted s d)
 attempted (Attempt.Declined d) = result (declined d)
-attempted (Attempt.Refused n) = refused n
+attempted (Attempt.Refused n) = refused n 0
 
 abbrev pub scanned : Scanned → Reply ScanResult
 scanned (Scanned.Done r) = result r
-scanned (Scanned.Refused n) = refused n
+scanned (Scanned.Refused n) = refused n 0
 
 abbrev pub converged : Converged → Reply ConvergeResult
 converged (Converged.Done r) = result r
-converged (Converged.Refused n) = refused n
+converged (Converged.Refused n) = refused n 0
 
--- ---- a call: its answer, and what stands in the buffer that it is lent
+-- ---- a call: its answer, and what it leaves in the buffers that it is lent
 pub record Outcome (A B : Type 0) : Type 0 where
   pub reply : Reply A
-  pub buffer : B
+  pub left : B
 
--- refused with that number, the buffer unchanged, unless it is 0
+-- refused with that number, all as it was, unless it is 0
 abbrev pub unless : {A B : Type 0} → ℕ → B → Outcome A B → Outcome A B
 unless zero b o = o
-unless (suc n) b o = record { reply = refused (suc n); buffer = b }
+unless (suc n) b o = record { reply = refused (suc n) 0; left = b }
 
 unfoldable pub autocorrelationCall : (radius : ℕ) (psf : List ℕ) (out : List ℤ) → Outcome (Unit {0}) (List ℤ)
 autocorrelationCall radius psf out =
     unless (autocorrelationRefusal radius psf (length out)) out
-    (record { reply = result tt; buffer = autocorrelations radius psf })
+    (record { reply = result tt; left = autocorrelations radius psf })
 
 module _ (width height radius : ℕ) (psf gray dots : List ℕ) where
   unfoldable pub filteredErrorCall : (table : List ℤ) → Outcome (Unit {0}) (List ℤ)
   filteredErrorCall table =
       unless (halftoneRefusal width height radius psf gray dots (length table ∷ [])) table
-      (record { reply = result tt; buffer = filteredErrors (targetOf width height radius psf gray) dots })
+      (record { reply = result tt; left = filteredErrors (targetOf width height radius psf gray) dots })
 
   -- it is lent no buffer
   unfoldable pub squaredErrorCall : Outcome ℤ (Unit {0})
   squaredErrorCall =
       unless (halftoneRefusal width height radius psf gray dots []) tt
-      (record { reply = result (squaredError (targetOf width height radius psf gray) dots); buffer = tt })
+      (record { reply = result (squaredError (targetOf width height radius psf gray) dots); left = tt })
 
 -- the buffers (01: lent slices) of a start and of the later calls, as they are handed in and left: dots and table
 pub record Buffers : Type 0 where
@@ -100,7 +100,7 @@ startCall m psf gray dots table =
     let t = targetFor m psf gray in
     let begun = startDots m gray dots in
     unless (startRefusal m psf gray dots (length table)) (record { dots = dots; table = table })
-    (record { reply = result (freshStats t begun); buffer = withTable t begun })
+    (record { reply = result (freshStats t begun); left = withTable t begun })
 
 -- ---- the later calls
 -- what the reference does, where it is not refused
@@ -139,7 +139,7 @@ unfoldable pub laterCall : {A : Type 0} → ℕ → Target → (dots : List ℕ)
     → Outcome A Buffers
 laterCall number t dots table done =
     unless number (record { dots = dots; table = table })
-    (record { reply = result (done .answer); buffer = withTable t (done .after .dots) })
+    (record { reply = result (done .answer); left = withTable t (done .after .dots) })
 
 -- each with the reference that has these dots and the figures of this ledger
 module _ (m : Measures) (psf gray dots : List ℕ) (table : List ℤ) (s : Stats) where

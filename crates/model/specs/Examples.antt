@@ -54,7 +54,7 @@ stats before now dots on off swaps =
 
 -- what a call answers, with the dots and the table that it leaves
 abbrev pub outcome : {A : Type 0} → A → List ℕ → List ℤ → Outcome A Buffers
-outcome answer dots table = record { reply = result answer; buffer = record { dots = dots; table = table } }
+outcome answer dots table = record { reply = result answer; left = record { dots = dots; table = table } }
 
 -- a toggle of the one cell, blank and fresh
 abbrev pub toggleSingle : (gray : ℕ) (table error : ℤ) → Outcome Tried Buffers

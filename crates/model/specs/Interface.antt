@@ -13,25 +13,24 @@ use Rattle.model.specs.declared.Measures.{Measures}
 use Rattle.model.specs.declared.Stats.{Stats}
 use Rattle.model.specs.declared.ScanResult.{ScanResult}
 use Rattle.model.specs.declared.ConvergeResult.{ConvergeResult}
-use Rattle.model.specs.Basic.{pick}
 use Rattle.model.specs.Refusal.{Refusal, _when_, firstOf, badSize, badRadius, badReach, badKind}
 use Rattle.model.specs.Reference.{Tried, accepted, declined}
 use Rattle.model.specs.Calls.{Reply, result, refused, Outcome, unless, Buffers}
 use Rattle.model.specs.Calls.{startCall, toggleCall, swapCall, toggleScanCall, swapScanCall, convergeCall}
 use Rattle.model.specs.Lists.{Call, toggleAt, swapAt, toggleScan, swapScan, convergence}
 use Rattle.model.specs.Lists.{Result, tried, swept, rested, runBy, Held, outcome}
-use Rattle.model.specs.SheetCalls as Sheet
+use Rattle.model.specs.SheetCalls.{SheetBuffers, readCall}
 
 -- ---- an answer in numbers
 -- the status: 0, or document 01's refusal number
 abbrev pub status : {A : Type 0} → Reply A → ℕ
 status (result a) = 0
-status (refused n) = n
+status (refused n o) = n
 
 -- what stands behind a pointer at exit: what the result puts there, or what stood there
 abbrev pub after : {A B : Type 0} → (A → B) → B → Reply A → B
 after f b (result a) = f a
-after f b (refused n) = b
+after f b (refused n o) = b
 
 -- ---- a ledger in a slice
 -- how many numbers it takes
@@ -151,11 +150,11 @@ abbrev pub statsAfter : List ℤ → Reply Result → List ℤ
 statsAfter l (result (tried t)) = triedNumbers l t
 statsAfter l (result (swept r)) = scanNumbers r
 statsAfter l (result (rested r)) = convergeNumbers r
-statsAfter l (refused n) = l
+statsAfter l (refused n o) = l
 
 abbrev pub leave : Slices → Outcome Result Buffers → Slices
 leave h o =
-    record { dots = o .buffer .dots; table = o .buffer .table; stats = statsAfter (h .stats) (o .reply) }
+    record { dots = o .left .dots; table = o .left .table; stats = statsAfter (h .stats) (o .reply) }
 
 module _ (m : Measures) (psf gray : List ℕ) where
   abbrev pub callOver : Slices → Call → Outcome Result Buffers
@@ -168,30 +167,20 @@ module _ (m : Measures) (psf gray : List ℕ) where
 
   -- every answer in order, and what is left
   abbrev pub runOver : Slices → List Call → List (Reply Result) × Slices
-  runOver = runBy (λ h c. let o = callOver h c in record { reply = o .reply; buffer = leave h o })
+  runOver = runBy (λ h c. let o = callOver h c in record { reply = o .reply; left = leave h o })
 
--- ---- sheets, whose refusals have a byte offset
-abbrev pub sheetStatus : {A : Type 0} → Sheet.Reply A → ℕ
-sheetStatus (Sheet.result a) = 0
-sheetStatus (Sheet.refused n o) = n
-
--- what stands behind the pointer to the offset at exit: it is written on a refusal only
-abbrev pub offsetAfter : {A : Type 0} → ℕ → Sheet.Reply A → ℕ
-offsetAfter at (Sheet.result a) = at
-offsetAfter at (Sheet.refused n o) = o
-
--- and behind the others
-abbrev pub sheetAfter : {A B : Type 0} → (A → B) → B → Sheet.Reply A → B
-sheetAfter f b (Sheet.result a) = f a
-sheetAfter f b (Sheet.refused n o) = b
+-- ---- sheets
+-- what stands behind the pointer to the byte offset at exit: it is written on a refusal only
+abbrev pub offsetAfter : {A : Type 0} → ℕ → Reply A → ℕ
+offsetAfter at (result a) = at
+offsetAfter at (refused n o) = o
 
 -- measures in a slice of five numbers
 abbrev pub measureNumbers : Measures → List ℕ
 measureNumbers m = m .width ∷ m .height ∷ m .radius ∷ m .reach ∷ m .start ∷ []
 
--- reading into a slice of measures: 5 at 0 where there are not five, before all else
-unfoldable pub readOver : (bytes psf gray dots measures : List ℕ) → Sheet.ReadOutcome
+-- reading into a slice of measures: 5 where there are not five, before all else
+unfoldable pub readOver : (bytes psf gray dots measures : List ℕ) → Outcome Measures SheetBuffers
 readOver bytes psf gray dots measures =
-    pick (eqb (length measures) 5)
-    (Sheet.readCall bytes psf gray dots)
-    (record { reply = Sheet.refused 5 0; psf = psf; gray = gray; dots = dots })
+    unless (firstOf (5 when not (eqb (length measures) 5) ∷ [])) (record { psf = psf; gray = gray; dots = dots })
+    (readCall bytes psf gray dots)

@@ -38,7 +38,7 @@ unfoldable pub runBy : {C R S : Type 0} → (S → C → Outcome R S) → S → 
 runBy make s [] = ([], s)
 runBy make s (c ∷ l) =
     let o = make s c in
-    let r = runBy make (o .buffer) l in
+    let r = runBy make (o .left) l in
     (o .reply ∷ r .0, r .1)
 
 -- ---- the calls
@@ -54,19 +54,19 @@ latest s (result (tried (accepted s′ d))) = s′
 latest s (result (tried (declined d))) = s
 latest s (result (swept r)) = r .stats
 latest s (result (rested r)) = r .stats
-latest s (refused n) = s
+latest s (refused n o) = s
 
 -- the same answer as a result of any call
 abbrev pub answering : {A : Type 0} → (A → Result) → Reply A → Reply Result
 answering f (result a) = result (f a)
-answering f (refused n) = refused n
+answering f (refused n o) = refused n o
 
 abbrev pub outcome : {A : Type 0} → (A → Result) → Outcome A Buffers → Outcome Result Buffers
-outcome f o = record { reply = answering f (o .reply); buffer = o .buffer }
+outcome f o = record { reply = answering f (o .reply); left = o .left }
 
 abbrev pub handOn : Held → Outcome Result Buffers → Held
 handOn h o =
-    record { dots = o .buffer .dots; table = o .buffer .table; stats = latest (h .stats) (o .reply) }
+    record { dots = o .left .dots; table = o .left .table; stats = latest (h .stats) (o .reply) }
 
 module _ (m : Measures) (psf gray : List ℕ) where
   -- one call: the functions are those that the contracts of the public calls cite
@@ -80,7 +80,7 @@ module _ (m : Measures) (psf gray : List ℕ) where
 
   -- with what the next one is handed
   abbrev pub callNext : Held → Call → Outcome Result Held
-  callNext h c = let o = call h c in record { reply = o .reply; buffer = handOn h o }
+  callNext h c = let o = call h c in record { reply = o .reply; left = handOn h o }
 
   abbrev pub run : Held → List Call → List (Reply Result) × Held
   run = runBy callNext
@@ -91,7 +91,7 @@ unfoldable pub begin : Target → List ℕ → Reference
 begin t dots = record { dots = dots; figures = freshFigures t dots }
 
 abbrev pub replied : {A : Type 0} → (A → Result) → Performed A → Outcome Result Reference
-replied f done = record { reply = result (f (done .answer)); buffer = done .after }
+replied f done = record { reply = result (f (done .answer)); left = done .after }
 
 -- what a call asks of the cells that it names, by these dots
 abbrev pub asked : Measures → List ℕ → Call → Asked
@@ -123,7 +123,7 @@ expected = 8 ∷ 9 ∷ 22 ∷ []
 
 abbrev pub Expected : Reply Result → Type 0
 Expected (result r) = Unit {0}
-Expected (refused n) = In n expected
+Expected (refused n o) = In n expected
 
 -- ---- rest: no toggle, no swap within reach lowers E; the two half-peak bounds
 pub record Rest (t : Target) (reach : ℕ) (dots : List ℕ) (table : List ℤ) : Type 0 where

@@ -38,16 +38,16 @@ statsText r =
 module _ (m : Measures) (psf gray : List ℕ) where
   abbrev pub convergedText : Reply ConvergeResult → (dots : List ℕ) → List ℕ
   convergedText (result r) dots = sheetText (writtenSheet m psf gray dots) ++ statsText r
-  convergedText (refused n) dots = refusedText n 0
+  convergedText (refused n o) dots = refusedText n o
 
   abbrev pub startedText : Reply Stats → Buffers → List ℕ
   startedText (result s) b =
       let o = convergeCall m psf gray (b .dots) (b .table) s in
-      convergedText (o .reply) (o .buffer .dots)
-  startedText (refused n) b = refusedText n 0
+      convergedText (o .reply) (o .left .dots)
+  startedText (refused n o) b = refusedText n o
 
   unfoldable pub processedText : (dots : List ℕ) (table : List ℤ) → List ℕ
-  processedText dots table = let o = startCall m psf gray dots table in startedText (o .reply) (o .buffer)
+  processedText dots table = let o = startCall m psf gray dots table in startedText (o .reply) (o .left)
 
 -- the dots that the start is handed: those of the sheet, and blank ones where it has none
 abbrev pub handedDots : Sheet → List ℕ

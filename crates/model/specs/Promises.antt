@@ -36,7 +36,7 @@ use Rattle.model.specs.Text.{isDigit, digits, capped, NoDigit, step, ste
 use Rattle.model.specs.Sheet.{Sheet, roomFor, sheetText, Valid}
 use Rattle.model.specs.SheetRefusal.{Draws, Leftmost}
 use Rattle.model.specs.Format.{readSheet}
-use Rattle.model.specs.SheetCalls.{result as written, withGiven, writtenSheet, readCall, writeCall}
+use Rattle.model.specs.SheetCalls.{withGiven, writtenSheet, readCall, writeCall}
 use Rattle.model.specs.ProgramPromises.{ProgramPromises}
 use Rattle.model.specs.Interface.{statsSize, numbers, statsIn, startOver, toggleOver, swapOver, Told}
 use Rattle.model.specs.Interface.{Slices, slicesOf, heldIn, callOver, runOver}
@@ -136,11 +136,11 @@ module _ (m : Measures) (psf gray dots : List ℕ) (table : List ℤ) (s : Stats
   pub record AttemptPromises : Type 0 where
     pub toggle-tries : (row col : ℕ) (answer : Tried)
         → toggleCall m psf gray dots table s row col .reply ≡ result answer
-        → Tries (toggle dots (cellAt (m .width) row col)) answer (toggleCall m psf gray dots table s row col .buffer)
+        → Tries (toggle dots (cellAt (m .width) row col)) answer (toggleCall m psf gray dots table s row col .left)
     pub swap-tries : (row col row′ col′ : ℕ) (answer : Tried)
         → swapCall m psf gray dots table s row col row′ col′ .reply ≡ result answer
         → Tries (swap dots (cellAt (m .width) row col) (cellAt (m .width) row′ col′)) answer
-        (swapCall m psf gray dots table s row col row′ col′ .buffer)
+        (swapCall m psf gray dots table s row col row′ col′ .left)
 
 -- ---- Starts: what one that is not refused answers and leaves
 module _ (m : Measures) (psf gray : List ℕ) where
@@ -163,7 +163,7 @@ module _ (m : Measures) (psf gray : List ℕ) where
   pub record StartPromises : Type 0 where
     pub start-begins : (dots : List ℕ) (table : List ℤ) (s : Stats) → AtMost 255 gray
         → startCall m psf gray dots table .reply ≡ result s
-        → Begun (startCall m psf gray dots table .buffer) s
+        → Begun (startCall m psf gray dots table .left) s
 
 -- ---- Scans and settling, of any target and step
 pub record ScanPromises : Type 0 where
@@ -188,9 +188,9 @@ module _ (m : Measures) (psf gray : List ℕ) where
     pub is-answered : o .reply ≡ result (rested answer)
     -- it ends at rest: no toggle lowers E, no swap within reach lowers E, twice the table is at most 255 × P under
     -- every dot and at least -255 × P under every blank
-    pub is-at-rest : Rest (targetFor m psf gray) (m .reach) (o .buffer .dots) (o .buffer .table)
+    pub is-at-rest : Rest (targetFor m psf gray) (m .reach) (o .left .dots) (o .left .table)
     -- its scans are at most 2 × its accepted changes + 2
-    pub scans-are-few : (let after = referenceCall m psf gray before convergence .buffer in
+    pub scans-are-few : (let after = referenceCall m psf gray before convergence .left in
         answer .scans ≤ 2 * (changes (after .figures) - changes (before .figures)) + 2)
 
   -- what holds after a list of calls, from the dots, table and ledger of a start whose dots are `first`
@@ -237,7 +237,7 @@ module _ (m : Measures) (psf gray : List ℕ) where
     pub demand-3 : (dots : List ℕ) (table : List ℤ) (s : Stats) → AtMost 255 gray
         → startCall m psf gray dots table .reply ≡ result s
         → (l : List Call)
-        → (let begun = startCall m psf gray dots table .buffer in
+        → (let begun = startCall m psf gray dots table .left in
         Demand3 (startDots m gray dots) (record { dots = begun .dots; table = begun .table; stats = s }) l)
     -- handed on as left, nothing draws 20 or 21, nor 1 to 7: from whatever a later call accepts, and whatever the call
     pub left-is-accepted : (h : Held) (c : Call) → laterRefusal m psf gray (h .dots) (h .table) (h .stats) ≡ 0
@@ -296,14 +296,14 @@ module _ (m : Measures) (psf gray dots out : List ℕ) (k : ℕ) where
   pub record WritingPromises : Type 0 where
     -- is the text of what was handed in, with start 2, each number in its field
     pub written-sheet-is-text : let s = writtenSheet m psf gray dots in
-        (k ≡ length (sheetText s)) × (take k (writeCall m psf gray dots out .out) ≡ sheetText s) × Valid s
+        (k ≡ length (sheetText s)) × (take k (writeCall m psf gray dots out .left) ≡ sheetText s) × Valid s
     -- and reads back as just that, into any buffers that it fits
     pub written-sheet-reads-back : (p g d : List ℕ) → roomFor (withGiven m) (length p) (length g) (length d) ≡ true
-        → let r = readCall (take k (writeCall m psf gray dots out .out)) p g d in
-        (r .reply ≡ written (withGiven m))
-        × (r .psf ≡ sets p 0 psf)
-        × (r .gray ≡ sets g 0 gray)
-        × (r .dots ≡ sets d 0 dots)
+        → let r = readCall (take k (writeCall m psf gray dots out .left)) p g d in
+        (r .reply ≡ result (withGiven m))
+        × (r .left .psf ≡ sets p 0 psf)
+        × (r .left .gray ≡ sets g 0 gray)
+        × (r .left .dots ≡ sets d 0 dots)
 
 -- ---- the C interface
 module _ (m : Measures) (psf gray : List ℕ) where
@@ -318,10 +318,10 @@ module _ (m : Measures) (psf gray : List ℕ) where
     -- an attempt that is not refused was accepted exactly when its change is below 0
     pub toggle-is-told : (dots : List ℕ) (table stats : List ℤ) (row col : ℕ) (a : Tried)
         → (let o = toggleOver m psf gray dots table stats row col in
-        o .reply ≡ result a → Told dots table stats a (o .buffer))
+        o .reply ≡ result a → Told dots table stats a (o .left))
     pub swap-is-told : (dots : List ℕ) (table stats : List ℤ) (row col row′ col′ : ℕ) (a : Tried)
         → (let o = swapOver m psf gray dots table stats row col row′ col′ in
-        o .reply ≡ result a → Told dots table stats a (o .buffer))
+        o .reply ≡ result a → Told dots table stats a (o .left))
     -- so a list of its calls answers and leaves what the list of calls does, and demand 3 holds of it
     pub interface-lists-are-lists : (h : Held) (l : List Call)
         → (let r = run m psf gray h l in runOver m psf gray (slicesOf h) l ≡ (r .0, slicesOf (r .1)))
@@ -342,7 +342,7 @@ pub record Promises : Type 0 where
   -- no two sheets have the same text
   pub one-text-one-sheet : (s s′ : Sheet) → Valid s → Valid s′ → sheetText s ≡ sheetText s′ → s ≡ s′
   pub writing-promises : (m : Measures) (psf gray dots out : List ℕ) (k : ℕ)
-      → writeCall m psf gray dots out .reply ≡ written k → AtMost 255 psf → AtMost 255 gray
+      → writeCall m psf gray dots out .reply ≡ result k → AtMost 255 psf → AtMost 255 gray
       → WritingPromises m psf gray dots out k
   pub program-promises : (input : List ℕ) → ProgramPromises input
   pub interface-promises : (m : Measures) (psf gray : List ℕ) → InterfacePromises m psf gray

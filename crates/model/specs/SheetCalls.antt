@@ -1,7 +1,7 @@
 -- Reading and writing a sheet, as functions from what the call is handed to its answer and to what its buffers hold at
 -- exit. A buffer may be longer than needed, and what lies past the part written remains.
 use mathlib.Core.List.{List}
-use Prim.Native.Nat.{ℕ, zero, suc}
+use Prim.Native.Nat.{ℕ}
 use lib.Dec.{leb, eqb}
 use lib.ListN.{length}
 use lib.Seq.{sets}
@@ -12,13 +12,9 @@ use Rattle.model.specs.declared.Writing.{Writing}
 use Rattle.model.specs.declared.Writing.the-variants as Writing
 use Rattle.model.specs.Basic.{pick}
 use Rattle.model.specs.Refusal.{writeRefusal}
+use Rattle.model.specs.Calls.{Reply, result, refused, Outcome, unless}
 use Rattle.model.specs.Sheet.{Sheet, sheetText}
 use Rattle.model.specs.Format.{Read, readSheet}
-
--- what an answer says: a result, or document 01's number and its byte offset, 0 where there is no place
-pub data Reply (A : Type 0) : Type 0 where
-  result : A → Reply A
-  refused : (number at : ℕ) → Reply A
 
 -- the number and the values of each case of the answers in the code
 abbrev pub readingOf : Reading → Reply Measures
@@ -30,29 +26,26 @@ writingOf (Writing.Done k) = result k
 writingOf (Writing.Refused n o) = refused n o
 
 -- ---- reading
-pub record ReadOutcome : Type 0 where
-  pub reply : Reply Measures
+pub record SheetBuffers : Type 0 where
   pub psf : List ℕ
   pub gray : List ℕ
   pub dots : List ℕ
 
 -- a sheet that was read stands at the front of the buffers; one that was refused leaves them
-abbrev pub outcomeOf : Read → (psf gray dots : List ℕ) → ReadOutcome
+abbrev pub outcomeOf : Read → (psf gray dots : List ℕ) → Outcome Measures SheetBuffers
 outcomeOf r psf gray dots = record {
   reply = pick (eqb (r .refusal) 0) (result (r .sheet .measures)) (refused (r .refusal) (r .at));
-  psf = sets psf 0 (r .sheet .psf);
-  gray = sets gray 0 (r .sheet .gray);
-  dots = sets dots 0 (r .sheet .dots);
+  left = record {
+    psf = sets psf 0 (r .sheet .psf);
+    gray = sets gray 0 (r .sheet .gray);
+    dots = sets dots 0 (r .sheet .dots);
+  };
 }
 
-unfoldable pub readCall : (bytes psf gray dots : List ℕ) → ReadOutcome
+unfoldable pub readCall : (bytes psf gray dots : List ℕ) → Outcome Measures SheetBuffers
 readCall bytes psf gray dots = outcomeOf (readSheet bytes (length psf) (length gray) (length dots)) psf gray dots
 
 -- ---- writing
-pub record WriteOutcome : Type 0 where
-  pub reply : Reply ℕ
-  pub out : List ℕ
-
 -- the writer always writes start 2
 abbrev pub withGiven : Measures → Measures
 withGiven m =
@@ -62,18 +55,13 @@ abbrev pub writtenSheet : Measures → (psf gray dots : List ℕ) → Sheet
 writtenSheet m psf gray dots = record { measures = withGiven m; psf = psf; gray = gray; dots = dots }
 
 -- the text where it fits, else 12 at the length of the output
-abbrev pub writeText : (text out : List ℕ) → WriteOutcome
+abbrev pub writeText : (text out : List ℕ) → Outcome ℕ (List ℕ)
 writeText text out =
     pick (leb (length text) (length out))
-    (record { reply = result (length text); out = sets out 0 text })
-    (record { reply = refused 12 (length out); out = out })
+    (record { reply = result (length text); left = sets out 0 text })
+    (record { reply = refused 12 (length out); left = out })
 
 -- 1 to 5 and 7 first
-abbrev pub unlessRefused : ℕ → List ℕ → WriteOutcome → WriteOutcome
-unlessRefused zero out w = w
-unlessRefused (suc n) out w = record { reply = refused (suc n) 0; out = out }
-
-unfoldable pub writeCall : Measures → (psf gray dots out : List ℕ) → WriteOutcome
+unfoldable pub writeCall : Measures → (psf gray dots out : List ℕ) → Outcome ℕ (List ℕ)
 writeCall m psf gray dots out =
-    unlessRefused (writeRefusal m psf gray dots) out
-    (writeText (sheetText (writtenSheet m psf gray dots)) out)
+    unless (writeRefusal m psf gray dots) out (writeText (sheetText (writtenSheet m psf gray dots)) out)

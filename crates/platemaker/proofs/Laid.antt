@@ -10,9 +10,8 @@ use Rattle.model.specs.declared.Measures.{Measures}
 use Rattle.model.specs.Calls.{Reply, Outcome, Buffers}
 use Rattle.model.specs.Interface.{status, after, statsSize}
 use Rattle.model.specs.Interface.{badMeasures, badStatsLength, sliceRefusal, overStats}
-use Rattle.model.specs.Interface.{sheetStatus, offsetAfter, sheetAfter, measureNumbers, readOver}
+use Rattle.model.specs.Interface.{offsetAfter, measureNumbers, readOver}
 use Rattle.model.specs.SheetCalls.{readCall}
-use Rattle.model.specs.SheetCalls as Sheet
 use Rattle.platemaker_numbers.specs.Storable.{Holds}
 use Rattle.model.proofs.Refusal.{none}
 use Rattle.model.proofs.Calls.{is-refused, is-done}
@@ -37,8 +36,8 @@ module _ {A X : Type 0} (m : Measures) (psf gray dots : List ℕ) (table stats :
   Laid r d t s y =
       let q = overStats m psf gray dots table stats o in
       (r ≡ status (q .reply))
-      × (d ≡ q .buffer .dots)
-      × (t ≡ q .buffer .table)
+      × (d ≡ q .left .dots)
+      × (t ≡ q .left .table)
       × (s ≡ after f stats (q .reply))
       × (y ≡ after g x (q .reply))
 
@@ -57,7 +56,7 @@ module _ {A X : Type 0} (m : Measures) (psf gray dots : List ℕ) (table stats :
   -- it is taken, and the call's answer laid out
   pub slice-taken : {n : ℕ} → n ≡ sliceRefusal m stats → n ≡ 0
       → {reply : Reply A} {r : ℕ} {d : List ℕ} {t s : List ℤ} {y : X}
-      → (reply ≡ o .reply) × ((d ≡ o .buffer .dots) × (t ≡ o .buffer .table))
+      → (reply ≡ o .reply) × ((d ≡ o .left .dots) × (t ≡ o .left .table))
       → (r ≡ status reply) × (s ≡ after f stats reply) × (y ≡ after g x reply)
       → Laid r d t s y
   unfolding overStats
@@ -76,29 +75,29 @@ module _ (bytes psf gray dots measures : List ℕ) (offset : ℕ) where
   abbrev ReadInto : (r : ℕ) (p g d s : List ℕ) (at : ℕ) → Type 0
   ReadInto r p g d s at =
       let o = readOver bytes psf gray dots measures in
-      (r ≡ sheetStatus (o .reply))
-      × (p ≡ o .psf)
-      × (g ≡ o .gray)
-      × (d ≡ o .dots)
-      × (s ≡ sheetAfter measureNumbers measures (o .reply))
+      (r ≡ status (o .reply))
+      × (p ≡ o .left .psf)
+      × (g ≡ o .left .gray)
+      × (d ≡ o .left .dots)
+      × (s ≡ after measureNumbers measures (o .reply))
       × (at ≡ offsetAfter offset (o .reply))
 
   pub read-unmeasured : (length measures ≡ 5 → ⊥) → ReadInto 5 psf gray dots measures 0
   unfolding readOver
   read-unmeasured h = rw (ne-eqb (length measures) 5 h) (refl, refl, refl, refl, refl, refl)
 
-  pub read-measured : length measures ≡ 5 → {reply : Sheet.Reply Measures} {r : ℕ} {p g d s : List ℕ} {at : ℕ}
+  pub read-measured : length measures ≡ 5 → {reply : Reply Measures} {r : ℕ} {p g d s : List ℕ} {at : ℕ}
       → (let o = readCall bytes psf gray dots in
-      (reply ≡ o .reply) × ((p ≡ o .psf) × ((g ≡ o .gray) × (d ≡ o .dots))))
-      → (r ≡ sheetStatus reply) × (s ≡ sheetAfter measureNumbers measures reply) × (at ≡ offsetAfter offset reply)
+      (reply ≡ o .reply) × ((p ≡ o .left .psf) × ((g ≡ o .left .gray) × (d ≡ o .left .dots))))
+      → (r ≡ status reply) × (s ≡ after measureNumbers measures reply) × (at ≡ offsetAfter offset reply)
       → ReadInto r p g d s at
   unfolding readOver
   read-measured e (k, (ep, (eg, ed))) (er, es, ea) =
       rw (eq-eqb (length measures) 5 e) (
-        er ∙ ap sheetStatus k,
+        er ∙ ap status k,
         ep,
         eg,
         ed,
-        es ∙ ap (sheetAfter measureNumbers measures) k,
+        es ∙ ap (after measureNumbers measures) k,
         ea ∙ ap (offsetAfter offset) k,
       )

@@ -49,7 +49,7 @@ start-storable m psf gray dots table bytes = go (startRefusal m psf gray dots (l
 
     go : (n : ℕ) → startRefusal m psf gray dots (length table) ≡ n
         → Holds Storable (unless n (record { dots = dots; table = table })
-        (record { reply = result (freshStats t begun); buffer = withTable t begun }) .reply)
+        (record { reply = result (freshStats t begun); left = withTable t begun }) .reply)
     go zero e = storable m psf gray _ _ _ (start-later m psf gray dots (length table) bytes e)
     go (suc n) e = tt
 

@@ -7,7 +7,7 @@ ghost use Rattle.model.specs.Calls.{autocorrelationCall, filteredErrorCall, squ
 ghost use Rattle.model.specs.Interface.{status, after, numbers};
 ghost use Rattle.model.specs.Interface.{startOver, toggleOver, swapOver, toggleScanOver, swapScanOver, convergeOver};
 ghost use Rattle.model.specs.Interface.{changeOf, triedNumbers, scanNumbers, convergeNumbers};
-ghost use Rattle.model.specs.Interface.{sheetStatus, offsetAfter, sheetAfter, measureNumbers, readOver};
+ghost use Rattle.model.specs.Interface.{offsetAfter, measureNumbers, readOver};
 ghost use Rattle.model.specs.SheetCalls.{writeCall};
 use model::Measures;
 use platemaker_answers::lay_filled;
@@ -26,7 +26,7 @@ use platemaker_numbers::stats_of;
 pub extern "C" fn pm_autocorrelation(radius: usize, psf: &[u8], out: &mut [i32]) -> u32
     ensures { λ r. ⌜ (let o = autocorrelationCall radius (now (psf .entry)) (now (out .entry)) in
         (r ≡ status (o .reply))
-        × (now (out .exit) ≡ o .buffer)) ⌝ }
+        × (now (out .exit) ≡ o .left)) ⌝ }
 {
     let answer = filter::autocorrelation(radius, psf, out);
     lay_filled(answer)
@@ -46,7 +46,7 @@ pub extern "C" fn pm_filtered_error(
     ensures { λ r. ⌜ (let o = filteredErrorCall width height radius
         (now (psf .entry)) (now (gray .entry)) (now (dots .entry)) (now (table .entry)) in
         (r ≡ status (o .reply))
-        × (now (table .exit) ≡ o .buffer)) ⌝ }
+        × (now (table .exit) ≡ o .left)) ⌝ }
 {
     let answer = filter::filtered_error(width, height, radius, psf, gray, dots, table);
     lay_filled(answer)
@@ -90,8 +90,8 @@ pub extern "C" fn pm_start(
         (record { width = width; height = height; radius = radius; reach = reach; start = start })
         (now (psf .entry)) (now (gray .entry)) (now (dots .entry)) (now (table .entry)) (now (stats .entry)) in
         (r ≡ status (o .reply))
-        × (now (dots .exit) ≡ o .buffer .dots)
-        × (now (table .exit) ≡ o .buffer .table)
+        × (now (dots .exit) ≡ o .left .dots)
+        × (now (table .exit) ≡ o .left .table)
         × (now (stats .exit) ≡ after numbers (now (stats .entry)) (o .reply))) ⌝ }
     ensures { λ _. ⌜ AtMost 255 (now (gray .entry)) ⌝ }
 {
@@ -131,8 +131,8 @@ pub extern "C" fn pm_try_toggle(
         (record { width = width; height = height; radius = radius; reach = reach; start = start })
         (now (psf .entry)) (now (gray .entry)) (now (dots .entry)) (now (table .entry)) (now (stats .entry)) row col in
         (r ≡ status (o .reply))
-        × (now (dots .exit) ≡ o .buffer .dots)
-        × (now (table .exit) ≡ o .buffer .table)
+        × (now (dots .exit) ≡ o .left .dots)
+        × (now (table .exit) ≡ o .left .table)
         × (now (stats .exit) ≡ after (triedNumbers (now (stats .entry))) (now (stats .entry)) (o .reply))
         × (now (change .exit) ≡ after changeOf (now (change .entry)) (o .reply))) ⌝ }
 {
@@ -176,8 +176,8 @@ pub extern "C" fn pm_try_swap(
         (now (psf .entry)) (now (gray .entry)) (now (dots .entry)) (now (table .entry)) (now (stats .entry))
         row col row2 col2 in
         (r ≡ status (o .reply))
-        × (now (dots .exit) ≡ o .buffer .dots)
-        × (now (table .exit) ≡ o .buffer .table)
+        × (now (dots .exit) ≡ o .left .dots)
+        × (now (table .exit) ≡ o .left .table)
         × (now (stats .exit) ≡ after (triedNumbers (now (stats .entry))) (now (stats .entry)) (o .reply))
         × (now (change .exit) ≡ after changeOf (now (change .entry)) (o .reply))) ⌝ }
 {
@@ -227,8 +227,8 @@ pub extern "C" fn pm_toggle_scan(
         (record { width = width; height = height; radius = radius; reach = reach; start = start })
         (now (psf .entry)) (now (gray .entry)) (now (dots .entry)) (now (table .entry)) (now (stats .entry)) in
         (r ≡ status (o .reply))
-        × (now (dots .exit) ≡ o .buffer .dots)
-        × (now (table .exit) ≡ o .buffer .table)
+        × (now (dots .exit) ≡ o .left .dots)
+        × (now (table .exit) ≡ o .left .table)
         × (now (stats .exit) ≡ after scanNumbers (now (stats .entry)) (o .reply))
         × (now (changes .exit) ≡ after (λ done. done .changes) (now (changes .entry)) (o .reply))) ⌝ }
 {
@@ -267,8 +267,8 @@ pub extern "C" fn pm_swap_scan(
         (record { width = width; height = height; radius = radius; reach = reach; start = start })
         (now (psf .entry)) (now (gray .entry)) (now (dots .entry)) (now (table .entry)) (now (stats .entry)) in
         (r ≡ status (o .reply))
-        × (now (dots .exit) ≡ o .buffer .dots)
-        × (now (table .exit) ≡ o .buffer .table)
+        × (now (dots .exit) ≡ o .left .dots)
+        × (now (table .exit) ≡ o .left .table)
         × (now (stats .exit) ≡ after scanNumbers (now (stats .entry)) (o .reply))
         × (now (changes .exit) ≡ after (λ done. done .changes) (now (changes .entry)) (o .reply))) ⌝ }
 {
@@ -307,8 +307,8 @@ pub extern "C" fn pm_converge(
         (record { width = width; height = height; radius = radius; reach = reach; start = start })
         (now (psf .entry)) (now (gray .entry)) (now (dots .entry)) (now (table .entry)) (now (stats .entry)) in
         (r ≡ status (o .reply))
-        × (now (dots .exit) ≡ o .buffer .dots)
-        × (now (table .exit) ≡ o .buffer .table)
+        × (now (dots .exit) ≡ o .left .dots)
+        × (now (table .exit) ≡ o .left .table)
         × (now (stats .exit) ≡ after convergeNumbers (now (stats .entry)) (o .reply))
         × (now (scans .exit) ≡ after (λ done. done .scans) (now (scans .entry)) (o .reply))) ⌝ }
 {
@@ -340,11 +340,11 @@ pub extern "C" fn pm_read_sheet(
 ) -> u32
     ensures { λ r. ⌜ (let o = readOver
         (now (bytes .entry)) (now (psf .entry)) (now (gray .entry)) (now (dots .entry)) (now (measures .entry)) in
-        (r ≡ sheetStatus (o .reply))
-        × (now (psf .exit) ≡ o .psf)
-        × (now (gray .exit) ≡ o .gray)
-        × (now (dots .exit) ≡ o .dots)
-        × (now (measures .exit) ≡ sheetAfter measureNumbers (now (measures .entry)) (o .reply))
+        (r ≡ status (o .reply))
+        × (now (psf .exit) ≡ o .left .psf)
+        × (now (gray .exit) ≡ o .left .gray)
+        × (now (dots .exit) ≡ o .left .dots)
+        × (now (measures .exit) ≡ after measureNumbers (now (measures .entry)) (o .reply))
         × (now (offset .exit) ≡ offsetAfter (now (offset .entry)) (o .reply))) ⌝ }
 {
     if measures.len() != 5 {
@@ -373,9 +373,9 @@ pub extern "C" fn pm_write_sheet(
     ensures { λ r. ⌜ (let o = writeCall
         (record { width = width; height = height; radius = radius; reach = reach; start = start })
         (now (psf .entry)) (now (gray .entry)) (now (dots .entry)) (now (out .entry)) in
-        (r ≡ sheetStatus (o .reply))
-        × (now (out .exit) ≡ o .out)
-        × (now (length .exit) ≡ sheetAfter (λ n. n) (now (length .entry)) (o .reply))
+        (r ≡ status (o .reply))
+        × (now (out .exit) ≡ o .left)
+        × (now (length .exit) ≡ after (λ n. n) (now (length .entry)) (o .reply))
         × (now (offset .exit) ≡ offsetAfter (now (offset .entry)) (o .reply))) ⌝ }
 {
     let measures = Measures {

@@ -4,7 +4,7 @@ ghost use mathlib.Core.Path.{_≡_};
 ghost use lib.ListN.{length};
 ghost use Rattle.model.specs.Calls.{filled, valued};
 ghost use Rattle.model.specs.SheetCalls.{readingOf, writingOf};
-ghost use Rattle.model.specs.Interface.{status, after, sheetStatus, sheetAfter, offsetAfter, measureNumbers};
+ghost use Rattle.model.specs.Interface.{status, after, offsetAfter, measureNumbers};
 use model::Filled;
 use model::Reading;
 use model::SquaredError;
@@ -38,8 +38,8 @@ pub fn lay_squared_error(answer: SquaredError, error: &mut i64) -> u32
 // the same of a sheet that is read, with its measures, or the byte offset of a refusal
 pub fn lay_reading(answer: Reading, measures: &mut [usize], offset: &mut usize) -> u32
     requires { ⌜ length (now measures) ≡ 5 ⌝ }
-    ensures { λ r. ⌜ (r ≡ sheetStatus (readingOf answer))
-        × (now (measures .exit) ≡ sheetAfter measureNumbers (now (measures .entry)) (readingOf answer))
+    ensures { λ r. ⌜ (r ≡ status (readingOf answer))
+        × (now (measures .exit) ≡ after measureNumbers (now (measures .entry)) (readingOf answer))
         × (now (offset .exit) ≡ offsetAfter (now (offset .entry)) (readingOf answer)) ⌝ }
 {
     match answer {
@@ -56,8 +56,8 @@ pub fn lay_reading(answer: Reading, measures: &mut [usize], offset: &mut usize) 
 
 // the same of a sheet that is written, with its length, or the byte offset of a refusal
 pub fn lay_writing(answer: Writing, length: &mut usize, offset: &mut usize) -> u32
-    ensures { λ r. ⌜ (r ≡ sheetStatus (writingOf answer))
-        × (now (length .exit) ≡ sheetAfter (λ n. n) (now (length .entry)) (writingOf answer))
+    ensures { λ r. ⌜ (r ≡ status (writingOf answer))
+        × (now (length .exit) ≡ after (λ n. n) (now (length .entry)) (writingOf answer))
         × (now (offset .exit) ≡ offsetAfter (now (offset .entry)) (writingOf answer)) ⌝ }
 {
     match answer {

@@ -32,9 +32,9 @@ pub fn try_toggle(
     ensures { λ r. ⌜ attempted r ≡ toggleCall measures (now (psf .entry)) (now (gray .entry))
         (now (dots .entry)) (now (table .entry)) stats row col .reply ⌝ }
     ensures { λ _. ⌜ now (dots .exit) ≡ toggleCall measures (now (psf .entry)) (now (gray .entry))
-        (now (dots .entry)) (now (table .entry)) stats row col .buffer .dots ⌝ }
+        (now (dots .entry)) (now (table .entry)) stats row col .left .dots ⌝ }
     ensures { λ _. ⌜ now (table .exit) ≡ toggleCall measures (now (psf .entry)) (now (gray .entry))
-        (now (dots .entry)) (now (table .entry)) stats row col .buffer .table ⌝ }
+        (now (dots .entry)) (now (table .entry)) stats row col .left .table ⌝ }
 {
     let number = judge_toggle(measures, psf, gray, dots, table, stats, row, col);
     if number != 0 {
@@ -60,9 +60,9 @@ pub fn try_swap(
     ensures { λ r. ⌜ attempted r ≡ swapCall measures (now (psf .entry)) (now (gray .entry))
         (now (dots .entry)) (now (table .entry)) stats row col row2 col2 .reply ⌝ }
     ensures { λ _. ⌜ now (dots .exit) ≡ swapCall measures (now (psf .entry)) (now (gray .entry))
-        (now (dots .entry)) (now (table .entry)) stats row col row2 col2 .buffer .dots ⌝ }
+        (now (dots .entry)) (now (table .entry)) stats row col row2 col2 .left .dots ⌝ }
     ensures { λ _. ⌜ now (table .exit) ≡ swapCall measures (now (psf .entry)) (now (gray .entry))
-        (now (dots .entry)) (now (table .entry)) stats row col row2 col2 .buffer .table ⌝ }
+        (now (dots .entry)) (now (table .entry)) stats row col row2 col2 .left .table ⌝ }
 {
     let number = judge_swap(
         measures,
@@ -107,9 +107,9 @@ pub fn toggle_scan(
     ensures { λ r. ⌜ scanned r ≡ toggleScanCall measures (now (psf .entry)) (now (gray .entry))
         (now (dots .entry)) (now (table .entry)) stats .reply ⌝ }
     ensures { λ _. ⌜ now (dots .exit) ≡ toggleScanCall measures (now (psf .entry)) (now (gray .entry))
-        (now (dots .entry)) (now (table .entry)) stats .buffer .dots ⌝ }
+        (now (dots .entry)) (now (table .entry)) stats .left .dots ⌝ }
     ensures { λ _. ⌜ now (table .exit) ≡ toggleScanCall measures (now (psf .entry)) (now (gray .entry))
-        (now (dots .entry)) (now (table .entry)) stats .buffer .table ⌝ }
+        (now (dots .entry)) (now (table .entry)) stats .left .table ⌝ }
 {
     let number = judge_scan(measures, psf, gray, dots, table, stats);
     if number != 0 {
@@ -132,9 +132,9 @@ pub fn swap_scan(
     ensures { λ r. ⌜ scanned r ≡ swapScanCall measures (now (psf .entry)) (now (gray .entry))
         (now (dots .entry)) (now (table .entry)) stats .reply ⌝ }
     ensures { λ _. ⌜ now (dots .exit) ≡ swapScanCall measures (now (psf .entry)) (now (gray .entry))
-        (now (dots .entry)) (now (table .entry)) stats .buffer .dots ⌝ }
+        (now (dots .entry)) (now (table .entry)) stats .left .dots ⌝ }
     ensures { λ _. ⌜ now (table .exit) ≡ swapScanCall measures (now (psf .entry)) (now (gray .entry))
-        (now (dots .entry)) (now (table .entry)) stats .buffer .table ⌝ }
+        (now (dots .entry)) (now (table .entry)) stats .left .table ⌝ }
 {
     let number = judge_scan(measures, psf, gray, dots, table, stats);
     if number != 0 {
@@ -157,9 +157,9 @@ pub fn converge(
     ensures { λ r. ⌜ converged r ≡ convergeCall measures (now (psf .entry)) (now (gray .entry))
         (now (dots .entry)) (now (table .entry)) stats .reply ⌝ }
     ensures { λ _. ⌜ now (dots .exit) ≡ convergeCall measures (now (psf .entry)) (now (gray .entry))
-        (now (dots .entry)) (now (table .entry)) stats .buffer .dots ⌝ }
+        (now (dots .entry)) (now (table .entry)) stats .left .dots ⌝ }
     ensures { λ _. ⌜ now (table .exit) ≡ convergeCall measures (now (psf .entry)) (now (gray .entry))
-        (now (dots .entry)) (now (table .entry)) stats .buffer .table ⌝ }
+        (now (dots .entry)) (now (table .entry)) stats .left .table ⌝ }
 {
     let number = judge_scan(measures, psf, gray, dots, table, stats);
     if number != 0 {

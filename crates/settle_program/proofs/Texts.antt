@@ -14,9 +14,9 @@ use Rattle.model.specs.declared.Reading.the-variants as Reading
 use Rattle.model.specs.declared.Started.{Started}
 use Rattle.model.specs.declared.Stats.{Stats}
 use Rattle.model.specs.Basic.{AtMost}
-use Rattle.model.specs.Calls.{result, started, converged, startCall, convergeCall}
+use Rattle.model.specs.Calls.{result, Outcome, started, converged, startCall, convergeCall}
 use Rattle.model.specs.Sheet.{entriesOf, cellsOf, sheetText, InRange, Shaped}
-use Rattle.model.specs.SheetCalls.{readingOf, ReadOutcome, readCall, withGiven, writtenSheet}
+use Rattle.model.specs.SheetCalls.{readingOf, SheetBuffers, readCall, withGiven, writtenSheet}
 use Rattle.model.specs.Program.{refusedText, statsText, convergedText, startedText, processedText, output}
 use Rattle.model.proofs.Program.{text-most, emptyPsf, emptyCells, output-refused, output-read}
 use Rattle.sheet_write.proofs.Puts.{part-next}
@@ -72,7 +72,7 @@ module _ (m : Measures) (psf gray dots : List ℕ) where
     pub converged-put : (stats : Stats) (reply known : Converged) (after : List ℕ)
         → converged reply ≡ convergeCall m psf gray dots table stats .reply
         → reply ≡ known
-        → after ≡ convergeCall m psf gray dots table stats .buffer .dots
+        → after ≡ convergeCall m psf gray dots table stats .left .dots
         → Put most out answer left (convergedText m psf gray (converged known) after)
         → Put 40960 out answer left (startedText m psf gray (result stats) (record { dots = dots; table = table }))
     converged-put stats reply known after e k d =
@@ -82,19 +82,19 @@ module _ (m : Measures) (psf gray dots : List ℕ) where
     pub started-put : (reply known : Started) (after : List ℕ) (filled : List ℤ)
         → started reply ≡ startCall m psf gray dots table .reply
         → reply ≡ known
-        → after ≡ startCall m psf gray dots table .buffer .dots
-        → filled ≡ startCall m psf gray dots table .buffer .table
+        → after ≡ startCall m psf gray dots table .left .dots
+        → filled ≡ startCall m psf gray dots table .left .table
         → Put most out answer left (startedText m psf gray (started known) (record { dots = after; table = filled }))
         → Put 40960 out answer left (processedText m psf gray dots table)
     unfolding processedText
     started-put reply known after filled e k d t =
-        let b : record { dots = after; table = filled } ≡ startCall m psf gray dots table .buffer =
+        let b : record { dots = after; table = filled } ≡ startCall m psf gray dots table .left =
         ap₂ (λ d t. record { dots = d; table = t }) d t in
         put-same most few out answer left _ _ (ap₂ (startedText m psf gray) (sym (ap started k) ∙ e) b)
 
 -- of what reading answered and left in the buffers
 module _ (input : List ℕ) (few : length input ≤ 32768) (reply : Reading) where
-  abbrev outcome : ReadOutcome
+  abbrev outcome : Outcome Measures SheetBuffers
   outcome = readCall input emptyPsf emptyCells emptyCells
 
   pub read-refused : (number at : ℕ) → readingOf reply ≡ outcome .reply → reply ≡ Reading.Refused number at
@@ -103,7 +103,7 @@ module _ (input : List ℕ) (few : length input ≤ 32768) (reply : Reading) whe
 
   pub read-done : (m : Measures) (psf gray dots : List ℕ)
       → readingOf reply ≡ outcome .reply → reply ≡ Reading.Done m
-      → psf ≡ outcome .psf → gray ≡ outcome .gray → dots ≡ outcome .dots
+      → psf ≡ outcome .left .psf → gray ≡ outcome .left .gray → dots ≡ outcome .left .dots
       → (output input
       ≡ processedText m (take (entriesOf m) psf) (take (cellsOf m) gray) (take (cellsOf m) dots)
       (replicate (cellsOf m) (pos 0)))

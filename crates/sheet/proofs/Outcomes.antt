@@ -12,21 +12,27 @@ use Rattle.model.specs.declared.Place.{Place}
 use Rattle.model.specs.Refusal.{writeRefusal}
 use Rattle.model.specs.Sheet.{sheetText, InRange, roomFor}
 use Rattle.model.specs.Format.{body, parse, headOf, sheetOf, bodyEnd, readSheet}
-use Rattle.model.specs.SheetCalls.{result, refused, ReadOutcome, readCall}
-use Rattle.model.specs.SheetCalls.{WriteOutcome, writtenSheet, unlessRefused, writeText, writeCall}
+use Rattle.model.specs.Calls.{result, refused, Outcome, unless}
+use Rattle.model.specs.SheetCalls.{SheetBuffers, readCall, writtenSheet, writeText, writeCall}
 use Rattle.model.proofs.Sheet.{head-in-range}
 
 -- ---- reading
 -- an outcome as the contract asks for it
-pub read : {r v : ReadOutcome} → r ≡ v
-    → (v .reply ≡ r .reply) × ((v .psf ≡ r .psf) × ((v .gray ≡ r .gray) × (v .dots ≡ r .dots)))
-read e =
-    (sym (ap (λ r. r .reply) e), (sym (ap (λ r. r .psf) e), (sym (ap (λ r. r .gray) e), sym (ap (λ r. r .dots) e))))
+pub read : {r v : Outcome Measures SheetBuffers} → r ≡ v
+    → (v .reply ≡ r .reply)
+    × ((v .left .psf ≡ r .left .psf) × ((v .left .gray ≡ r .left .gray) × (v .left .dots ≡ r .left .dots)))
+read e = (
+  sym (ap (λ r. r .reply) e),
+  (
+    sym (ap (λ r. r .left .psf) e),
+    (sym (ap (λ r. r .left .gray) e), sym (ap (λ r. r .left .dots) e)),
+  ),
+)
 
 module _ (bytes psf gray dots : List ℕ) (h : Head) (e : h ≡ headOf bytes) where
   -- refused, and the buffers left
-  abbrev unread : (number at : ℕ) → ReadOutcome
-  unread n o = record { reply = refused n o; psf = psf; gray = gray; dots = dots }
+  abbrev unread : (number at : ℕ) → Outcome Measures SheetBuffers
+  unread n o = record { reply = refused n o; left = record { psf = psf; gray = gray; dots = dots } }
 
   pub head-refused : (h .refusal ≡ 0 → ⊥) → readCall bytes psf gray dots ≡ unread (h .refusal) (h .at)
   unfolding readCall readSheet
@@ -53,38 +59,40 @@ module _ (bytes psf gray dots : List ℕ) (h : Head) (e : h ≡ headOf bytes) wh
           readCall bytes psf gray dots
           ≡ record {
             reply = result (h .measures);
-            psf = sets psf 0 (s .psf);
-            gray = sets gray 0 (s .gray);
-            dots = sets dots 0 (s .dots);
+            left = record {
+              psf = sets psf 0 (s .psf);
+              gray = sets gray 0 (s .gray);
+              dots = sets dots 0 (s .dots);
+            };
           }
       unfolding readCall readSheet
       read-done y = rw (← e, eq-eqb (h .refusal) 0 z, f, ← q, eq-eqb (p .refusal) 0 y)
 
 -- ---- writing
 -- an outcome as the contract asks for it
-pub wrote : {w v : WriteOutcome} → w ≡ v → (v .reply ≡ w .reply) × (v .out ≡ w .out)
-wrote e = (sym (ap (λ w. w .reply) e), sym (ap (λ w. w .out) e))
+pub wrote : {w v : Outcome ℕ (List ℕ)} → w ≡ v → (v .reply ≡ w .reply) × (v .left ≡ w .left)
+wrote e = (sym (ap (λ w. w .reply) e), sym (ap (λ w. w .left) e))
 
 module _ (m : Measures) (psf gray dots out : List ℕ) where
   abbrev text : List ℕ
   text = sheetText (writtenSheet m psf gray dots)
 
   pub write-refused : {n : ℕ} → n ≡ writeRefusal m psf gray dots → (n ≡ 0 → ⊥)
-      → writeCall m psf gray dots out ≡ record { reply = refused n 0; out = out }
+      → writeCall m psf gray dots out ≡ record { reply = refused n 0; left = out }
   unfolding writeCall
   write-refused {n} e z = rw (← e) (go n z)
     where
       go : (n : ℕ) → (n ≡ 0 → ⊥)
-          → unlessRefused n out (writeText text out) ≡ record { reply = refused n 0; out = out }
+          → unless n out (writeText text out) ≡ record { reply = refused n 0; left = out }
       go zero z = absurd (z refl)
       go (suc n) z = refl
 
   pub write-short : writeRefusal m psf gray dots ≡ 0 → length out < length text
-      → writeCall m psf gray dots out ≡ record { reply = refused 12 (length out); out = out }
+      → writeCall m psf gray dots out ≡ record { reply = refused 12 (length out); left = out }
   unfolding writeCall
   write-short z h = rw (z, lt-leb (length text) (length out) h)
 
   pub write-done : writeRefusal m psf gray dots ≡ 0 → length text ≤ length out
-      → writeCall m psf gray dots out ≡ record { reply = result (length text); out = sets out 0 text }
+      → writeCall m psf gray dots out ≡ record { reply = result (length text); left = sets out 0 text }
   unfolding writeCall
   write-done z h = rw (z, le-leb (length text) (length out) h)

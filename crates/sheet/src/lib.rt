@@ -17,11 +17,11 @@ pub fn read_sheet(bytes: &[u8], psf: &mut [u8], gray: &mut [u8], dots: &mut [u8]
     ensures { λ r. ⌜ readingOf r ≡ readCall (now (bytes .entry))
         (now (psf .entry)) (now (gray .entry)) (now (dots .entry)) .reply ⌝ }
     ensures { λ _. ⌜ now (psf .exit) ≡ readCall (now (bytes .entry))
-        (now (psf .entry)) (now (gray .entry)) (now (dots .entry)) .psf ⌝ }
+        (now (psf .entry)) (now (gray .entry)) (now (dots .entry)) .left .psf ⌝ }
     ensures { λ _. ⌜ now (gray .exit) ≡ readCall (now (bytes .entry))
-        (now (psf .entry)) (now (gray .entry)) (now (dots .entry)) .gray ⌝ }
+        (now (psf .entry)) (now (gray .entry)) (now (dots .entry)) .left .gray ⌝ }
     ensures { λ _. ⌜ now (dots .exit) ≡ readCall (now (bytes .entry))
-        (now (psf .entry)) (now (gray .entry)) (now (dots .entry)) .dots ⌝ }
+        (now (psf .entry)) (now (gray .entry)) (now (dots .entry)) .left .dots ⌝ }
 {
     let head = read_head(bytes);
     if head.refusal != 0 {
@@ -51,7 +51,7 @@ pub fn write_sheet(
     ensures { λ r. ⌜ writingOf r ≡ writeCall measures
         (now (psf .entry)) (now (gray .entry)) (now (dots .entry)) (now (out .entry)) .reply ⌝ }
     ensures { λ _. ⌜ now (out .exit) ≡ writeCall measures
-        (now (psf .entry)) (now (gray .entry)) (now (dots .entry)) (now (out .entry)) .out ⌝ }
+        (now (psf .entry)) (now (gray .entry)) (now (dots .entry)) (now (out .entry)) .left ⌝ }
 {
     let number = judge_sheet(measures, psf, gray, dots);
     if number != 0 {

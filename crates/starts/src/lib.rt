@@ -58,9 +58,9 @@ pub fn start(
     ensures { λ r. ⌜ started r ≡ startCall measures
         (now (psf .entry)) (now (gray .entry)) (now (dots .entry)) (now (table .entry)) .reply ⌝ }
     ensures { λ r. ⌜ now (dots .exit) ≡ startCall measures
-        (now (psf .entry)) (now (gray .entry)) (now (dots .entry)) (now (table .entry)) .buffer .dots ⌝ }
+        (now (psf .entry)) (now (gray .entry)) (now (dots .entry)) (now (table .entry)) .left .dots ⌝ }
     ensures { λ r. ⌜ now (table .exit) ≡ startCall measures
-        (now (psf .entry)) (now (gray .entry)) (now (dots .entry)) (now (table .entry)) .buffer .table ⌝ }
+        (now (psf .entry)) (now (gray .entry)) (now (dots .entry)) (now (table .entry)) .left .table ⌝ }
     ensures { λ _. ⌜ AtMost 255 (now (gray .entry)) ⌝ }
 {
     let number = judge_start(measures, psf, gray, dots, table.len());

@@ -1,7 +1,7 @@
 -- `platemaker::pm_write_sheet` meets its contract: the answer is laid out, and the output is as it is left.
 use mathlib.Core.Path.{_∙_, ap}
 use borrow.Author.Needs.{needs}
-use Rattle.model.specs.Interface.{sheetStatus, offsetAfter, sheetAfter}
+use Rattle.model.specs.Interface.{status, after, offsetAfter}
 use Rattle.platemaker.proofs.pm_write_sheet.Statement.{statement}
 use Rattle.platemaker.proofs.pm_write_sheet.Tie as tie
 
@@ -19,8 +19,8 @@ returns c =
     let called : tie.After-write-sheet = search in
     let laid : tie.After-lay-writing = search in
     let (e, left) = called .write-sheet .ensures in
-    let (status, long, at) = laid .lay-writing .ensures in
-    (status ∙ ap sheetStatus e, left, long ∙ ap (sheetAfter (λ n. n) _) e, at ∙ ap (offsetAfter _) e)
+    let (number, long, at) = laid .lay-writing .ensures in
+    (number ∙ ap status e, left, long ∙ ap (after (λ n. n) _) e, at ∙ ap (offsetAfter _) e)
 
 pub pm-write-sheet-spec : {M : Type 1} → statement M
 pm-write-sheet-spec = tie.close (tie.spec write-sheet-requires lay-writing-requires same-length returns)
