@@ -11,8 +11,9 @@ use lib.ListN.{length, getD}
 use Rattle.model.specs.Error.{Target, cells, filteredError, filteredErrors}
 use Rattle.model.specs.Ledger.{unequal}
 use Rattle.model.specs.Refusal.{firstOf}
-use Rattle.model.specs.State.{someBelow, badTable, badStats}
+use Rattle.model.specs.State.{badTable, badStats}
 use Rattle.model.specs.declared.Stats.{Stats}
+use Rattle.model.specs.Basic.{someBelow}
 use Rattle.model.proofs.Basic.{getD-tabulate}
 use Rattle.model.proofs.Refusal.{_nor_}
 use Rattle.model.proofs.State.{all-below}

@@ -14,11 +14,11 @@ use Rattle.model.specs.declared.Stats.{Stats}
 use Rattle.model.specs.Error.{Target, targetFor, cellAt, filteredErrors, squaredError, cells}
 use Rattle.model.specs.Refusal.{PlateFits}
 use Rattle.model.specs.State.{toggleRefusal, swapRefusal, LaterFits}
-use Rattle.model.specs.Ledger.{raised}
-use Rattle.model.specs.Change.{counted}
-use Rattle.model.specs.Reference.{Move, made, toggle, swap, Reference, reference, accept}
+use Rattle.model.specs.Ledger.{raised, counted}
+use Rattle.model.specs.Change.{Move, made, toggle, swap, Legal, change, lowers, Look, lookFrom}
+use Rattle.model.specs.Reference.{Reference, reference, accept}
 use Rattle.model.specs.Reference.{Tried, accepted, declined, Performed}
-use Rattle.model.specs.Reference.{statsOf, change, lowers, attempt, Legal}
+use Rattle.model.specs.Reference.{statsOf, attempt, decided}
 use Rattle.model.specs.Calls.{result, toggleCall, swapCall, withTable, laterCall}
 use Rattle.model.specs.Lists.{tried, latest}
 use Rattle.model.specs.Promises.{Verdict, Tries}
@@ -54,9 +54,9 @@ module _ (t : Target) (p : Reference) (v : Move) where
       → Q (record { answer = accepted (statsOf t (accept p v)) (change t (p .dots) v); after = accept p v }))
       → (pos 0 ≤ℤ change t (p .dots) v → Q (record { answer = declined (change t (p .dots) v); after = p }))
       → Q (attempt t p v)
-  unfolding attempt
+  unfolding attempt lookFrom
   attempt-cases Q lower higher =
-      pick-cases Q (lowers t (p .dots) v) (λ e. lower (below e))
+      pick-cases (λ (k : Look). Q (decided t p (k .taken) (k .last))) (lowers t (p .dots) v) (λ e. lower (below e))
       (λ e. higher (at-least (change t (p .dots) v) (pos 0) e))
 
 -- E now gains the change, and the one matching count rises by 1: the ledger is the reference's

@@ -19,9 +19,8 @@ use Rattle.model.specs.Psf.{autocorrelation, peak}
 use Rattle.model.specs.Error.{Target, cells, row, column, kernel, error}
 use Rattle.model.specs.Error.{filteredError, filteredErrors, squaredError}
 use Rattle.model.specs.Window.{addWindow, HoldsKernel}
-use Rattle.model.specs.Change.{sign, flipped, toggleSum, byteSwapSum, swapSum}
-use Rattle.model.specs.Change.{toggleChange, byteSwapChange, swapChange}
-use Rattle.model.specs.Reference.{Setting, Move, made, toggle, swap, change, Placed}
+use Rattle.model.specs.Change.{sign, flipped, toggleSum, byteSwapSum, swapSum, Setting, Move, Placed, made, swap}
+use Rattle.model.specs.Change.{toggleChange, byteSwapChange, swapChange, toggle, change}
 use Rattle.model.proofs.Basic.{tabulate-cong}
 use Rattle.model.proofs.Error.{kernel-symmetric, filtered-edit, squared-edit}
 use Rattle.model.proofs.Window.{addWindow-tabulate, gain-kernel}

@@ -11,8 +11,8 @@ use Rattle.model.specs.declared.Measures.{Measures}
 use Rattle.model.specs.declared.Stats.{Stats}
 use Rattle.model.specs.Basic.{AtMost, All}
 use Rattle.model.specs.Error.{targetFor, filteredErrors, squaredError}
-use Rattle.model.specs.Ledger.{changes, ledgerDots, fallOf, dotTotal}
-use Rattle.model.specs.State.{laterRefusal, freshStats}
+use Rattle.model.specs.Ledger.{changes, ledgerDots, fallOf, dotTotal, freshStats}
+use Rattle.model.specs.State.{laterRefusal}
 use Rattle.model.specs.Reference.{Reference, statsOf}
 use Rattle.model.specs.Screen.{startDots}
 use Rattle.model.specs.Calls.{result, startCall}

@@ -3,15 +3,15 @@
 use mathlib.Core.Path.{refl}
 use native.Mathlib.Omega.{arith}
 use Rattle.algebra.specs.Sum.{sumTo, sumFrom}
-use Rattle.model.specs.Basic.{tabulate, gridAt, squareAt}
+use Rattle.model.specs.Basic.{tabulate, gridAt, squareAt, someBelow}
 use Rattle.model.specs.Psf.{total, psfAt, autocorrelation}
 use Rattle.model.specs.Error.{kernel, error, filteredError, filteredErrors, squaredError}
 use Rattle.model.specs.Screen.{bayer, thresholdAt, ordered, startDots}
 use Rattle.model.specs.Refusal.{above, startRefusal}
-use Rattle.model.specs.Ledger.{raised, wrongStats}
-use Rattle.model.specs.State.{someBelow, freshStats, badTable}
+use Rattle.model.specs.Ledger.{raised, wrongStats, freshStats}
+use Rattle.model.specs.State.{badTable}
 use Rattle.model.specs.State.{laterRefusal, toggleRefusal, swapRefusal}
-use Rattle.model.specs.Reference.{made, toggle, swap, accept, statsOf, change, attempt}
+use Rattle.model.specs.Reference.{accept, statsOf, attempt}
 use Rattle.model.specs.Partners.{offsetsOf, offsetsFrom, offsets}
 use Rattle.model.specs.Scan.{toggles, swapsBy, tryEach, sweepTo, convergeIn, convergeFrom, converge}
 use Rattle.model.specs.Calls.{laterCall, startCall, toggleCall, swapCall, convergeCall}
@@ -20,6 +20,7 @@ use Rattle.model.specs.Sheet.{names, psfName, grayName, dotsName, sheetT
 use Rattle.model.specs.Format.{head, body, fieldAt, headOf, bodyEnd, readSheet}
 use Rattle.model.specs.Program.{refusedText, figuresText, processedText, output}
 use Rattle.model.specs.Examples.{workedInput, workedOutput, Examples, dark, darkDots, light, lightDots, OneSided}
+use Rattle.model.specs.Change.{made, toggle, swap, change, lookFrom}
 use Rattle.model.proofs.Refusal.{none-above}
 use Rattle.model.proofs.Rest.{rest-tested}
 
@@ -27,7 +28,7 @@ pub examples : Examples
 unfolding sumTo sumFrom tabulate gridAt squareAt psfAt autocorrelation kernel error filteredError filteredErrors
     squaredError total bayer thresholdAt ordered startDots above someBelow badTable wrongStats toggleRefusal swapRefusal
     made toggle swap raised accept statsOf change attempt laterCall toggleCall swapCall
-    laterRefusal startRefusal freshStats startCall offsetsOf offsetsFrom offsets toggles swapsBy tryEach sweepTo
+    laterRefusal startRefusal freshStats startCall offsetsOf offsetsFrom offsets toggles swapsBy lookFrom tryEach sweepTo
     convergeIn convergeFrom converge convergeCall digits names psfName grayName dotsName sheetText
     head body fieldAt headOf bodyEnd readSheet refusedText figuresText processedText output workedInput workedOutput
 examples =

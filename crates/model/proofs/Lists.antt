@@ -10,7 +10,7 @@ use Rattle.model.specs.Error.{Target, targetFor, cellAt, cells, filtered
 use Rattle.model.specs.Refusal.{Refusal, _when_, firstOf}
 use Rattle.model.specs.State.{Asked, asks, noCell, toggleAsked, swapAsked, laterRefusals, LaterFits}
 use Rattle.model.specs.State.{laterRefusal, toggleRefusal, swapRefusal}
-use Rattle.model.specs.Reference.{Move, toggle, swap, Legal, Reference, reference, Performed, statsOf, attempt}
+use Rattle.model.specs.Reference.{Reference, reference, Performed, statsOf, attempt}
 use Rattle.model.specs.Scan.{Rule, toggles, swaps, scan, resultOf, converge}
 use Rattle.model.specs.Calls.{Reply, result, Outcome, unless, Buffers, laterCall}
 use Rattle.model.specs.Calls.{toggleCall, swapCall, toggleScanCall, swapScanCall, convergeCall}
@@ -19,6 +19,7 @@ use Rattle.model.specs.Lists.{Result, tried, swept, rested}
 use Rattle.model.specs.Lists.{runBy, Held, latest, outcome, handOn, call, callNext, run}
 use Rattle.model.specs.Lists.{replied, asked, does, referenceCall, referenceRun, expected, Expected}
 use Rattle.model.specs.Basic.{All}
+use Rattle.model.specs.Change.{Move, toggle, swap, Legal}
 use Rattle.model.proofs.Later.{later-draws}
 use Rattle.model.proofs.Attempts.{toggle-ready, swap-ready, attempt-cases, Sound, entry-stats, entry-sound}
 use Rattle.model.proofs.Scan.{Lawful, toggles-lawful, swaps-lawful, Keeps, sweep-keeps}

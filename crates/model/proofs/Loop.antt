@@ -8,10 +8,10 @@ use lib.ListN.{length, getD, drop, drop-of-length-le}
 use lib.Seq.{drop-cons}
 use Rattle.model.specs.Basic.{pick}
 use Rattle.model.specs.Error.{Target}
-use Rattle.model.specs.Reference.{Move, swap, lowers}
 use Rattle.model.specs.Partners.{Offset, offsets, biased, partner}
 use Rattle.model.specs.Scan.{suits, swapsBy, Sweep, tryEach}
-use Rattle.model.proofs.Scan.{more}
+use Rattle.model.specs.Change.{Move, swap, lowers}
+use Rattle.model.proofs.Scan.{more, try-none, try-step}
 
 module _ (t : Target) (reach : ℕ) (s : Sweep) (m : ℕ) where
   abbrev dots : List ℕ
@@ -25,8 +25,8 @@ module _ (t : Target) (reach : ℕ) (s : Sweep) (m : ℕ) where
 
   -- no offset is left
   pub left-none : (j : ℕ) → length (offsets reach) ≤ j → left j ≡ s
-  unfolding swapsBy tryEach
-  left-none j h = ap (λ l. tryEach t s (attempts l)) (drop-of-length-le (offsets reach) h)
+  unfolding swapsBy
+  left-none j h = ap (λ l. tryEach t s (attempts l)) (drop-of-length-le (offsets reach) h) ∙ try-none t s
 
   module _ (j : ℕ) (h : j < length (offsets reach)) where
     abbrev offset : Offset
@@ -48,8 +48,7 @@ module _ (t : Target) (reach : ℕ) (s : Sweep) (m : ℕ) where
 
     module _ (e : suits t dots m offset ≡ true) where
       tried : left j ≡ pick (lowers t dots move) (more s move) (left (suc j))
-      unfolding tryEach
-      tried = next ∙ ap (λ b. tryEach t s (pick b (move ∷ others) others)) e
+      tried = next ∙ ap (λ b. tryEach t s (pick b (move ∷ others) others)) e ∙ try-step t s move others
 
       -- its swap is declined
       pub pass-declined : lowers t dots move ≡ false → left j ≡ left (suc j)

@@ -1,6 +1,5 @@
 -- The promises of document 01 hold (specs/Promises.antt): a line for each, which cites the law that does the work.
-use Rattle.model.specs.Change.{toggleSum, swapSum}
-use Rattle.model.specs.Reference.{change}
+use Rattle.model.specs.Change.{toggleSum, swapSum, change}
 use Rattle.model.specs.Promises.{Promises}
 use Rattle.model.proofs.Psf.{autocorrelation-even, autocorrelation-ends}
 use Rattle.model.proofs.Psf.{autocorrelation-nonneg, autocorrelation-total}

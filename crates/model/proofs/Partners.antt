@@ -22,7 +22,7 @@ use Rattle.model.specs.Partners.{itself, Within, Before, farther, higher
 use Rattle.model.specs.Partners.{partnerRow, partnerColumn}
 use Rattle.model.specs.Refusal.{gap}
 use Rattle.model.specs.Ledger.{unequal}
-use Rattle.model.specs.State.{someBelow}
+use Rattle.model.specs.Basic.{someBelow}
 use Rattle.model.proofs.Refusal.{neither}
 use Rattle.model.proofs.State.{below, equal, all-below}
 

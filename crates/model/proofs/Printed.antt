@@ -17,8 +17,7 @@ use Rattle.model.specs.Psf.{total}
 use Rattle.model.specs.Error.{squaredError, Halftone}
 use Rattle.model.specs.Refusal.{Refusal, firstOf, above, badSize, badRadius, badReach, badKind, badLength, badSum}
 use Rattle.model.specs.Refusal.{badGiven, startRefusal}
-use Rattle.model.specs.Ledger.{dotTotal}
-use Rattle.model.specs.State.{freshStats}
+use Rattle.model.specs.Ledger.{dotTotal, freshStats}
 use Rattle.model.specs.Reference.{Reference, statsOf}
 use Rattle.model.specs.Scan.{converge}
 use Rattle.model.specs.Calls.{startCall, laterCall, convergeCall}

@@ -20,9 +20,8 @@ use Rattle.model.specs.Error.{Target, targetOf, cells, filteredErrors, s
 use Rattle.model.specs.Refusal.{HalftoneFits}
 use Rattle.model.specs.Ledger.{onCount, offCount, netOf, raised, changes}
 use Rattle.model.specs.State.{StateFits}
-use Rattle.model.specs.Change.{flipped}
-use Rattle.model.specs.Reference.{Placed, Legal}
-use Rattle.model.specs.Reference.{Setting, Move, made, toggle, swap, reference, accept, statsOf, change}
+use Rattle.model.specs.Change.{flipped, Setting, Move, Placed, made, toggle, swap, Legal, change}
+use Rattle.model.specs.Reference.{reference, accept, statsOf}
 use Rattle.model.proofs.Error.{squared-nonneg}
 use Rattle.model.proofs.Ledger.{raised-start, raised-changes, raised-dots}
 use Rattle.model.proofs.Turn.{two, toggle-sets, toggle-made}

@@ -13,13 +13,11 @@ use lib.Signed.{_≤ℤ_}
 use lib.ListN.{getD}
 use Rattle.algebra.proofs.Solver.{reify}
 use Rattle.algebra.proofs.Order.{ordℤ, read≤, show≤}
-use Rattle.model.specs.Basic.{pick, All}
+use Rattle.model.specs.Basic.{pick, All, someBelow}
 use Rattle.model.specs.Psf.{peak}
 use Rattle.model.specs.Error.{Target, cells, filteredError, filteredErrors, Halftone}
 use Rattle.model.specs.Refusal.{gap}
-use Rattle.model.specs.Change.{signOf, sign, toggleSum}
-use Rattle.model.specs.State.{someBelow}
-use Rattle.model.specs.Reference.{Move, toggle, swap, lowers}
+use Rattle.model.specs.Change.{signOf, sign, toggleSum, Move, toggle, swap, lowers}
 use Rattle.model.specs.Partners.{Offset, offsets, partner}
 use Rattle.model.specs.Scan.{toggles, suits, swapsBy, swaps}
 use Rattle.model.specs.Lists.{Rest}

@@ -1,9 +1,9 @@
 -- Laws of scans, for every target and every rule: what each accepted change keeps, a scan keeps; it counts its accepted
 -- changes, each of which lowers E; and a scan that accepts nothing leaves the reference as it was, nothing that it
 -- attempts lowering E.
-use mathlib.Core.Bool.{true, not, and-eq-true-iff}
+use mathlib.Core.Bool.{true, not, and-eq-true-iff, Bool, false}
 use mathlib.Core.List.{List, [], _∷_}
-use mathlib.Core.Path.{_≡_, refl, _∙_, subst}
+use mathlib.Core.Path.{_≡_, refl, _∙_, subst, ap, sym}
 use Prim.Native.Nat.{ℕ, zero, suc, _+_, _≤_, _<_}
 use native.Mathlib.Decide.{ℕ-discrete}
 use native.Mathlib.Nat.{not-suc-le-zero}
@@ -16,13 +16,14 @@ use lib.ListN.{getD}
 use Rattle.algebra.proofs.Solver.{reify}
 use Rattle.algebra.proofs.Order.{natAbs-parts, read≤, read<, show≤}
 use Rattle.model.specs.declared.Measures.{Measures}
-use Rattle.model.specs.Basic.{All}
+use Rattle.model.specs.Basic.{All, pick}
 use Rattle.model.specs.Error.{Target, targetFor, cells, squaredError, Halftone}
-use Rattle.model.specs.Reference.{Move, swap, made, Legal, Reference, accept, statsOf, change, lowers}
+use Rattle.model.specs.Reference.{Reference, accept, statsOf}
 use Rattle.model.specs.Partners.{Offset, offsets, lands, partner}
-use Rattle.model.specs.Scan.{Rule, toggles, suits, swapsBy, swaps, Sweep, tryEach, sweepTo}
+use Rattle.model.specs.Scan.{Rule, toggles, suits, swapsBy, swaps, Sweep, tryEach, sweepTo, taking}
 use Rattle.model.proofs.Basic.{pick-cases}
 use Rattle.model.specs.Ledger.{changes}
+use Rattle.model.specs.Change.{Move, made, swap, Legal, change, lowers, lookFrom}
 use Rattle.model.proofs.Error.{squared-nonneg}
 use Rattle.model.proofs.Ledger.{raised-start, raised-changes}
 use Rattle.model.proofs.State.{below, at-least}
@@ -76,16 +77,42 @@ abbrev pub more : Sweep → Move → Sweep
 more s v = record { after = accept (s .after) v; changes = suc (s .changes) }
 
 module _ (t : Target) where
+  -- one change weighed, and then the others
+  pub try-none : (s : Sweep) → tryEach t s [] ≡ s
+  unfolding tryEach lookFrom
+  try-none s = refl
+
+  pub try-step : (s : Sweep) (v : Move) (l : List Move)
+      → tryEach t s (v ∷ l) ≡ pick (lowers t (s .after .dots) v) (more s v) (tryEach t s l)
+  unfolding tryEach lookFrom
+  try-step s v l = go (lowers t (s .after .dots) v)
+    where
+      dots : List ℕ
+      dots = s .after .dots
+
+      d : ℤ
+      d = change t dots v
+
+      -- which one is taken does not depend on what came before
+      same : (l : List Move) → lookFrom t dots d l .taken ≡ lookFrom t dots (pos 0) l .taken
+      same [] = refl
+      same (w ∷ l) = refl
+
+      go : (b : Bool) → taking s (pick b (record { taken = v ∷ []; last = d }) (lookFrom t dots d l) .taken)
+          ≡ pick b (more s v) (taking s (lookFrom t dots (pos 0) l .taken))
+      go true = refl
+      go false = ap (taking s) (same l)
+
   module _ (Q : Sweep → Type 0) where
     -- each of these changes that is accepted after s keeps it
     abbrev Steps : Sweep → List Move → Type 0
     Steps s = All (λ v. change t (s .after .dots) v <ℤ pos 0 → Q (more s v))
 
     tries-hold : (s : Sweep) (l : List Move) → Q s → Steps s l → Q (tryEach t s l)
-    unfolding tryEach
-    tries-hold s [] q a = q
+    tries-hold s [] q a = subst Q (sym (try-none s)) q
     tries-hold s (v ∷ l) q a =
-        pick-cases Q (lowers t (s .after .dots) v) (λ e. a .0 (below e)) (λ e. tries-hold s l q (a .1))
+        subst Q (sym (try-step s v l))
+        (pick-cases Q (lowers t (s .after .dots) v) (λ e. a .0 (below e)) (λ e. tries-hold s l q (a .1)))
 
     sweep-holds : (rule : Rule) (p : Reference) → Q (record { after = p; changes = 0 }) → (n : ℕ)
         → ((s : Sweep) (m : ℕ) → m < n → Q s → Steps s (rule (s .after .dots) m))
@@ -185,13 +212,15 @@ module _ (t : Target) where
 
   tries-still : (s : Sweep) (l : List Move) → tryEach t s l .changes ≡ 0
       → (tryEach t s l .after ≡ s .after) × (s .changes ≡ 0) × All (Calm (s .after .dots)) l
-  unfolding tryEach
-  tries-still s [] e = (refl, e, tt)
+  tries-still s [] e = let same = try-none s in (ap (λ r. r .after) same, sym (ap (λ r. r .changes) same) ∙ e, tt)
   tries-still s (v ∷ l) e =
-      pick-cases (λ (r : Sweep). r .changes ≡ 0
-      → (r .after ≡ s .after) × (s .changes ≡ 0) × All (Calm (s .after .dots)) (v ∷ l))
-      (lowers t (s .after .dots) v) (λ b k. absurd (omega arith))
-      (λ b k. let (same, none, calm) = tries-still s l k in (same, none, (at-least _ _ b, calm))) e
+      subst Still (sym (try-step s v l))
+      (pick-cases Still (lowers t (s .after .dots) v) (λ b k. absurd (omega arith))
+      (λ b k. let (same, none, calm) = tries-still s l k in (same, none, (at-least _ _ b, calm)))) e
+    where
+      Still : Sweep → Type 0
+      Still r =
+          r .changes ≡ 0 → (r .after ≡ s .after) × (s .changes ≡ 0) × All (Calm (s .after .dots)) (v ∷ l)
 
   module _ (rule : Rule) (p : Reference) where
     pub sweep-still : (n : ℕ) → sweepTo t rule p n .changes ≡ 0

@@ -11,9 +11,10 @@ use Rattle.model.specs.Basic.{AtMost}
 use Rattle.model.specs.Error.{Target, targetFor, filteredErrors}
 use Rattle.model.specs.Screen.{startDots}
 use Rattle.model.specs.Refusal.{startRefusal, PlateFits}
-use Rattle.model.specs.State.{freshStats, StateFits, LaterFits}
+use Rattle.model.specs.State.{StateFits, LaterFits}
 use Rattle.model.specs.Promises.{Begun}
 use Rattle.model.specs.Calls.{result, refused, startCall, withTable}
+use Rattle.model.specs.Ledger.{freshStats}
 use Rattle.model.proofs.Error.{filtered-long}
 use Rattle.model.proofs.Calls.{both-refused, both-done, was-done}
 use Rattle.model.proofs.Refusal.{start-plate}

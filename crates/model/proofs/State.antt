@@ -16,11 +16,11 @@ use lib.ListN.{length, getD}
 use Rattle.algebra.proofs.Solver.{reify}
 use Rattle.algebra.proofs.Order.{ordℤ, show≡}
 use Rattle.model.specs.declared.Stats.{Stats}
-use Rattle.model.specs.Basic.{AtMost}
+use Rattle.model.specs.Basic.{AtMost, someBelow}
 use Rattle.model.specs.Psf.{total}
 use Rattle.model.specs.Error.{Target, cells, filteredError, filteredErrors, squaredError, mostSquared}
-use Rattle.model.specs.Ledger.{dotTotal, unequal, some, faults, wrongStats}
-use Rattle.model.specs.State.{someBelow, freshStats, badTable, badStats, StateFits}
+use Rattle.model.specs.Ledger.{dotTotal, unequal, some, faults, wrongStats, freshStats}
+use Rattle.model.specs.State.{badTable, badStats, StateFits}
 use Rattle.model.specs.Refusal.{firstOf}
 use Rattle.model.proofs.Basic.{at-most-tail, getD-tabulate, tabulate-by}
 use Rattle.model.proofs.Refusal.{None, neither, _nor_, none, drawn-none}

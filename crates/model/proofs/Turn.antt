@@ -10,8 +10,7 @@ use lib.IntN.{pos, negsuc, _-ℤ_, _*ℤ_}
 use lib.ListN.{getD, set}
 use lib.Seq.{getD-set-other}
 use Rattle.model.specs.Basic.{pick, AtMost}
-use Rattle.model.specs.Change.{signOf, sign, flipped}
-use Rattle.model.specs.Reference.{Setting, made, toggle, swap}
+use Rattle.model.specs.Change.{signOf, sign, flipped, Setting, made, toggle, swap}
 
 -- the store that turns the dot of m
 abbrev pub turns : List ℕ → ℕ → Setting

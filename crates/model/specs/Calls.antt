@@ -23,10 +23,12 @@ use Rattle.model.specs.Psf.{autocorrelations}
 use Rattle.model.specs.Error.{Target, targetOf, targetFor, cellAt, filteredErrors, squaredError}
 use Rattle.model.specs.Refusal.{autocorrelationRefusal, halftoneRefusal, startRefusal}
 use Rattle.model.specs.Screen.{startDots}
-use Rattle.model.specs.State.{freshStats, laterRefusal, toggleRefusal, swapRefusal}
-use Rattle.model.specs.Reference.{toggle, swap, Reference, reference, accept}
+use Rattle.model.specs.State.{laterRefusal, toggleRefusal, swapRefusal}
+use Rattle.model.specs.Reference.{Reference, reference, accept}
 use Rattle.model.specs.Reference.{Tried, accepted, declined, Performed, attempt}
 use Rattle.model.specs.Scan.{toggles, swaps, scan, converge}
+use Rattle.model.specs.Change.{toggle, swap}
+use Rattle.model.specs.Ledger.{freshStats}
 
 -- what an answer says: a result, or document 01's number with a byte offset, 0 where there is no place
 pub data Reply (A : Type 0) : Type 0 where

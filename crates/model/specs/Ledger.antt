@@ -9,7 +9,7 @@ use lib.Signed.{ltZ}
 use Rattle.model.specs.declared.Figures.{Figures}
 use Rattle.model.specs.declared.Stats.{Stats}
 use Rattle.model.specs.Psf.{total}
-use Rattle.model.specs.Error.{mostSquared}
+use Rattle.model.specs.Error.{Target, mostSquared, squaredError}
 use Rattle.model.specs.Refusal.{Refusal, _when_}
 
 -- ---- the counts
@@ -36,6 +36,10 @@ raised onCount f = withCounts f (f .on + 1) (f .off) (f .swaps)
 raised offCount f = withCounts f (f .on) (f .off + 1) (f .swaps)
 raised swapCount f = withCounts f (f .on) (f .off) (f .swaps + 1)
 
+-- E now gains the change, and the one matching count rises by 1
+unfoldable pub counted : Stats → (change : ℤ) → Count → Stats
+counted s change k = record { error = s .error +ℤ change; figures = raised k (s .figures) }
+
 -- ---- what the figures say together
 -- the accepted changes since the start
 abbrev pub changes : Figures → ℕ
@@ -52,6 +56,23 @@ fallOf s = s .figures .«start_error» -ℤ s .error
 -- the dot total: the number of dots on the plate, each byte being 0 or 1
 abbrev pub dotTotal : List ℕ → ℕ
 dotTotal = total
+
+-- ---- a fresh ledger, of these dots
+module _ (t : Target) (dots : List ℕ) where
+  -- fresh figures: the squared error, the dots counted, and the counts 0
+  abbrev pub freshFigures : Figures
+  freshFigures =
+      record {
+        «start_error» = squaredError t dots;
+        «start_dots» = dotTotal dots;
+        on = 0;
+        off = 0;
+        swaps = 0;
+      }
+
+  -- a fresh ledger: E now is E at the start
+  unfoldable pub freshStats : Stats
+  freshStats = record { error = squaredError t dots; figures = freshFigures }
 
 -- ---- 21
 -- two numbers differ

@@ -13,11 +13,13 @@ use Rattle.model.specs.declared.ConvergeResult.{ConvergeResult}
 use Rattle.model.specs.Psf.{peak}
 use Rattle.model.specs.Error.{Target, cells}
 use Rattle.model.specs.Refusal.{firstOf, gap}
-use Rattle.model.specs.State.{freshFigures, Asked, asks, noCell, toggleAsked, swapAsked}
-use Rattle.model.specs.Reference.{toggle, swap, Reference, Performed, Tried, accepted, declined, change}
+use Rattle.model.specs.State.{Asked, asks, noCell, toggleAsked, swapAsked}
+use Rattle.model.specs.Reference.{Reference, Performed, Tried, accepted, declined}
 use Rattle.model.specs.Calls.{Reply, result, refused, Outcome, unless, Buffers}
 use Rattle.model.specs.Calls.{toggled, swapped, toggleScanned, swapScanned, atRest}
 use Rattle.model.specs.Calls.{toggleCall, swapCall, toggleScanCall, swapScanCall, convergeCall}
+use Rattle.model.specs.Change.{toggle, swap, change}
+use Rattle.model.specs.Ledger.{freshFigures}
 
 -- a later call: its kind and the cells that it names
 pub data Call : Type 0 where

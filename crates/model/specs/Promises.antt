@@ -21,11 +21,11 @@ use Rattle.model.specs.Psf.{total, autocorrelation, peak}
 use Rattle.model.specs.Error.{Target, targetOf, targetFor, cellAt, cells, kernel, Halftone}
 use Rattle.model.specs.Error.{filteredError, filteredErrors, squaredError, perceivedSquares}
 use Rattle.model.specs.Refusal.{firstOf, halftoneRefusal}
-use Rattle.model.specs.Ledger.{changes, ledgerDots, fallOf, dotTotal}
+use Rattle.model.specs.Ledger.{changes, ledgerDots, fallOf, dotTotal, counted}
 use Rattle.model.specs.State.{badTable, badStats, StateFits, laterRefusal}
-use Rattle.model.specs.Change.{sign, counted}
-use Rattle.model.specs.Reference.{Move, Placed, made, toggle, swap, Reference, reference, statsOf}
-use Rattle.model.specs.Reference.{Tried, accepted, declined, change, attempt}
+use Rattle.model.specs.Change.{sign, Move, Placed, made, toggle, swap, change}
+use Rattle.model.specs.Reference.{Reference, reference, statsOf}
+use Rattle.model.specs.Reference.{Tried, accepted, declined, attempt}
 use Rattle.model.specs.Partners.{Ordered}
 use Rattle.model.specs.Scan.{Convergence, turn, convergeFrom}
 use Rattle.model.specs.Screen.{startDots}

@@ -11,7 +11,8 @@ use Rattle.model.specs.declared.ConvergeResult.{ConvergeResult}
 use Rattle.model.specs.Basic.{pick}
 use Rattle.model.specs.Error.{Target, cells, squaredError}
 use Rattle.model.specs.Partners.{Offset, offsets, lands, partner}
-use Rattle.model.specs.Reference.{Move, toggle, swap, Reference, reference, Performed, accept, statsOf, lowers}
+use Rattle.model.specs.Reference.{Reference, reference, Performed, accept, statsOf}
+use Rattle.model.specs.Change.{Move, toggle, swap, lowers, look}
 
 -- ---- what a scan attempts at cell m of these dots, in order, up to the first accepted
 abbrev pub Rule : Type 0
@@ -45,6 +46,11 @@ pub record Sweep : Type 0 where
   pub after : Reference
   pub changes : ℕ
 
+-- once a change was taken, if one was
+abbrev pub taking : Sweep → List Move → Sweep
+taking s [] = s
+taking s (v ∷ l) = record { after = accept (s .after) v; changes = suc (s .changes) }
+
 -- the same with these dots and the figures of this result
 abbrev pub sweepOf : List ℕ → ScanResult → Sweep
 sweepOf dots r = record { after = reference dots (r .stats); changes = r .changes }
@@ -62,11 +68,7 @@ module _ (t : Target) where
 
   -- attempts in order, up to the first accepted
   unfoldable pub tryEach : Sweep → List Move → Sweep
-  tryEach s [] = s
-  tryEach s (v ∷ l) =
-      pick (lowers t (s .after .dots) v)
-      (record { after = accept (s .after) v; changes = suc (s .changes) })
-      (tryEach s l)
+  tryEach s l = taking s (look t (s .after .dots) l .taken)
 
   -- a scan at cell m, with that result so far
   abbrev pub visit : Rule → List ℕ → ScanResult → ℕ → Sweep

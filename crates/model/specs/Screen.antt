@@ -5,12 +5,8 @@ use Prim.Native.Nat.{ℕ, _+_, _*_, _-_, _/_, _%_, _^_}
 use lib.Dec.{ltb, eqb}
 use lib.ListN.{getD}
 use Rattle.model.specs.declared.Measures.{Measures}
-use Rattle.model.specs.Basic.{pick, tabulate}
+use Rattle.model.specs.Basic.{pick, tabulate, bit}
 use Rattle.model.specs.Psf.{total}
-
--- bit i of a number
-abbrev pub bit : ℕ → ℕ → ℕ
-bit i n = n / 2 ^ i % 2
 
 -- D is 0, 2, 3, 1 for bits (0,0), (0,1), (1,0), (1,1) of the row and the column
 abbrev pub digit : ℕ → ℕ → ℕ

@@ -1,43 +1,22 @@
 -- The state that calls hand on: the dots, the table and the ledger (`Stats`). A fresh ledger, document 01's refusals
 -- because of the state, 20 to 22, and the whole lists of the later calls, those that are handed a table and a ledger.
-use mathlib.Core.Bool.{Bool, false, _||_}
 use mathlib.Core.List.{List, [], _∷_, _++_}
 use mathlib.Core.Path.{_≡_}
-use Prim.Native.Nat.{ℕ, zero, suc, _^_, _≤_}
+use Prim.Native.Nat.{ℕ, _^_, _≤_}
 use lib.Dec.{eqb}
 use lib.IntN.{ℤ, pos, _*ℤ_}
 use lib.Signed.{_≤ℤ_}
 use lib.ListN.{length, getD}
 use Rattle.model.specs.declared.Measures.{Measures}
-use Rattle.model.specs.declared.Figures.{Figures}
 use Rattle.model.specs.declared.Stats.{Stats}
 use Rattle.model.specs.Error.{Target, targetFor, cellAt, mostSquared, cells}
 use Rattle.model.specs.Error.{filteredErrors, filteredError, squaredError}
 use Rattle.model.specs.Refusal.{Refusal, _when_, firstOf, badCell, badCells, badPair, inputRefusals}
 use Rattle.model.specs.Refusal.{PlateFits}
 use Rattle.model.specs.Ledger.{changes, ledgerDots, fallOf, dotTotal, unequal, wrongStats}
-
--- the test holds of some number below n
-unfoldable pub someBelow : ℕ → (ℕ → Bool) → Bool
-someBelow zero f = false
-someBelow (suc n) f = someBelow n f || f n
+use Rattle.model.specs.Basic.{someBelow}
 
 module _ (t : Target) (dots : List ℕ) where
-  -- fresh figures: the squared error, the dots counted, and the counts 0
-  abbrev pub freshFigures : Figures
-  freshFigures =
-      record {
-        «start_error» = squaredError t dots;
-        «start_dots» = dotTotal dots;
-        on = 0;
-        off = 0;
-        swaps = 0;
-      }
-
-  -- a fresh ledger: E now is E at the start
-  unfoldable pub freshStats : Stats
-  freshStats = record { error = squaredError t dots; figures = freshFigures }
-
   -- 20 a table entry differs from T
   unfoldable pub badTable : List ℤ → Refusal
   badTable table = 20 when someBelow (cells t) (λ m. unequal (getD table m (pos 0)) (filteredError t dots m))

@@ -11,12 +11,13 @@ use Rattle.model.specs.Basic.{AtMost}
 use Rattle.model.specs.Error.{Target, targetFor}
 use Rattle.model.specs.Refusal.{startRefusal}
 use Rattle.model.specs.Screen.{startDots}
-use Rattle.model.specs.State.{freshStats, LaterFits, laterRefusal, toggleRefusal, swapRefusal}
+use Rattle.model.specs.State.{LaterFits, laterRefusal, toggleRefusal, swapRefusal}
 use Rattle.model.specs.Reference.{Tried, accepted, declined, Performed}
 use Rattle.model.specs.Calls.{result, unless, withTable, startCall, laterCall}
 use Rattle.model.specs.Calls.{toggleCall, swapCall, toggleScanCall, swapScanCall, convergeCall}
 use Rattle.model.specs.Lists.{Call, toggleAt, swapAt, toggleScan, swapScan, convergence}
 use Rattle.model.specs.Lists.{Result, tried, swept, rested, Held, latest, answering, call}
+use Rattle.model.specs.Ledger.{freshStats}
 use Rattle.model.proofs.Halftone.{few-cells}
 use Rattle.model.proofs.Later.{later-enters, toggle-enters, swap-enters}
 use Rattle.model.proofs.Lists.{call-later}

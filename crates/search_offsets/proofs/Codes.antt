@@ -11,7 +11,7 @@ use lib.ListN.{length, getD, take, length-map, List·getD-map}
 use lib.Seq.{length-take-le, getD-take}
 use Rattle.model.specs.Partners.{Offset, offsetsOf, offsetsFrom, offsets, biased, HoldsOffsets}
 use Rattle.model.specs.Refusal.{above}
-use Rattle.model.specs.State.{someBelow}
+use Rattle.model.specs.Basic.{someBelow}
 use Rattle.model.proofs.Refusal.{none-above, neither}
 use Rattle.model.proofs.State.{all-below}
 use Rattle.search_offsets.specs.Codes.{rowOf, columnOf, kept, Keeps}

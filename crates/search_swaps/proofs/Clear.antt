@@ -14,10 +14,10 @@ use Rattle.algebra.proofs.Solver.{reify}
 use Rattle.model.specs.Error.{Target, targetOf, cellAt, filteredErrors}
 use Rattle.model.specs.declared.ScanResult.{ScanResult}
 use Rattle.model.specs.Partners.{biased, lands, partner, worthAt, HoldsOffsets, HoldsWorths, Within}
-use Rattle.model.specs.Reference.{swap, lowers}
 use Rattle.model.specs.Refusal.{HalftoneFits}
 use Rattle.model.specs.Scan.{suits, swaps, sweepOf, visit}
 use Rattle.model.specs.Window.{HoldsKernel}
+use Rattle.model.specs.Change.{swap, lowers}
 use Rattle.model.proofs.Partners.{entry-within}
 use Rattle.search_prune.specs.Grid.{worthIn, GridFits, RowsClear}
 use Rattle.search_runs.specs.Run.{Fails, CellsClear}

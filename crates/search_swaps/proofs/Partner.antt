@@ -13,10 +13,9 @@ use lib.Signed.{_≤ℤ_, leZ, ltZ}
 use Rattle.algebra.proofs.Order.{read≤, read<, show≡}
 use Rattle.algebra.proofs.Solver.{reify}
 use Rattle.model.specs.Basic.{pick, squareAt}
-use Rattle.model.specs.Change.{sign, swapSum}
+use Rattle.model.specs.Change.{sign, swapSum, swap, lowers}
 use Rattle.model.specs.Error.{Target, targetOf, cellAt, filteredErrors}
 use Rattle.model.specs.Partners.{Offset, biased, inside, lands, partner, worthAt}
-use Rattle.model.specs.Reference.{swap, lowers}
 use Rattle.model.specs.Refusal.{HalftoneFits}
 use Rattle.model.specs.Scan.{suits}
 use Rattle.model.specs.Window.{HoldsKernel}

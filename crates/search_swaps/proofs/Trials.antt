@@ -10,8 +10,8 @@ use lib.ListN.{length, getD}
 use Rattle.model.specs.declared.ScanResult.{ScanResult}
 use Rattle.model.specs.Error.{Target}
 use Rattle.model.specs.Partners.{Offset, offsets, biased, partner, HoldsOffsets}
-use Rattle.model.specs.Reference.{swap, lowers}
 use Rattle.model.specs.Scan.{Sweep, suits, swapsAfter, sweepOf, Lowers, visit}
+use Rattle.model.specs.Change.{swap, lowers}
 use Rattle.model.proofs.Loop.{pass-unsuited, pass-declined}
 
 module _ (t : Target) {reach : ℕ} {downs rights : List ℕ} {count : ℕ} (held : HoldsOffsets reach downs rights count)

@@ -1,7 +1,7 @@
 -- What a scan makes of one cell of a judged plate: nothing is accepted and all stays, or one change is accepted.
 use mathlib.Core.Bool.{true, false}
-use mathlib.Core.List.{List}
-use mathlib.Core.Path.{_≡_, refl, sym, _∙_, ap, subst}
+use mathlib.Core.List.{List, []}
+use mathlib.Core.Path.{_≡_, refl, sym, _∙_, ap, subst, ap₂}
 use Prim.Native.Nat.{ℕ, _+_, _≤_, _<_}
 use native.Mathlib.Numerals.{add-one}
 use lib.IntN.{ℤ}
@@ -11,12 +11,13 @@ use Rattle.model.specs.declared.Stats.{Stats}
 use Rattle.model.specs.declared.ScanResult.{ScanResult}
 use Rattle.model.specs.Basic.{pick}
 use Rattle.model.specs.Error.{Target, targetFor, filteredErrors}
-use Rattle.model.specs.Reference.{Move, toggle, swap, reference, accept, statsOf, lowers}
+use Rattle.model.specs.Reference.{reference, accept, statsOf}
 use Rattle.model.specs.Partners.{Offset, offsets, biased, partner}
 use Rattle.model.specs.State.{LaterFits}
 use Rattle.model.specs.Scan.{toggles, swapsAfter, Sweep, sweepOf, Lowers, tryEach, visit, resultOf}
+use Rattle.model.specs.Change.{Move, toggle, swap, lowers}
 use Rattle.model.proofs.Attempts.{entry-stats}
-use Rattle.model.proofs.Scan.{more}
+use Rattle.model.proofs.Scan.{more, try-none, try-step}
 use Rattle.model.proofs.Loop.{left-none, taken}
 
 module _ (m : Measures) (psf gray dots : List ℕ) (r : ScanResult) where
@@ -51,13 +52,17 @@ module _ (m : Measures) (psf gray dots : List ℕ) (r : ScanResult) where
 -- ---- a toggle scan at cell n
 module _ (t : Target) (dots : List ℕ) (r : ScanResult) (n : ℕ) where
   pub toggle-declined : lowers t dots (toggle dots n) ≡ false → visit t (toggles t) dots r n ≡ sweepOf dots r
-  unfolding toggles tryEach
-  toggle-declined e = ap (λ b. pick b (more (sweepOf dots r) (toggle dots n)) (sweepOf dots r)) e
+  unfolding toggles
+  toggle-declined e =
+      try-step t (sweepOf dots r) (toggle dots n) []
+      ∙ ap₂ (λ b s. pick b (more (sweepOf dots r) (toggle dots n)) s) e (try-none t (sweepOf dots r))
 
   pub toggle-accepted : lowers t dots (toggle dots n) ≡ true
       → visit t (toggles t) dots r n ≡ more (sweepOf dots r) (toggle dots n)
-  unfolding toggles tryEach
-  toggle-accepted e = ap (λ b. pick b (more (sweepOf dots r) (toggle dots n)) (sweepOf dots r)) e
+  unfolding toggles
+  toggle-accepted e =
+      try-step t (sweepOf dots r) (toggle dots n) []
+      ∙ ap (λ b. pick b (more (sweepOf dots r) (toggle dots n)) (tryEach t (sweepOf dots r) [])) e
 
 -- ---- a swap scan at cell n, from the j-th offset on
 module _ (t : Target) (reach : ℕ) (dots : List ℕ) (r : ScanResult) (n j : ℕ) where

@@ -16,8 +16,7 @@ use Rattle.model.specs.Error.{Target, targetOf, cellAt, mostSquared, cells, ker
 use Rattle.model.specs.Window.{addWindow, Small, HoldsKernel, mostFiltered}
 use Rattle.model.specs.Refusal.{HalftoneFits}
 use Rattle.model.specs.State.{LaterFits}
-use Rattle.model.specs.Change.{sign, flipped, toggleSum, swapSum}
-use Rattle.model.specs.Reference.{made, toggle, swap, change}
+use Rattle.model.specs.Change.{sign, flipped, toggleSum, swapSum, made, toggle, swap, change}
 use Rattle.model.proofs.Basic.{getD-tabulate}
 use Rattle.model.proofs.Error.{filtered-long}
 use Rattle.model.proofs.Window.{square-small}

@@ -10,7 +10,7 @@ use mir.Syntax.{w32}
 use mir.Val.{toZ, ofZ}
 use Rattle.algebra.proofs.Machine.{read-back}
 use Rattle.model.specs.Ledger.{unequal}
-use Rattle.model.specs.State.{someBelow}
+use Rattle.model.specs.Basic.{someBelow}
 use Rattle.model.proofs.State.{same}
 use Rattle.judge_ledger.proofs.Tests.{apart}
 use Rattle.judge_state.proofs.Fresh.{below-here, below-next}

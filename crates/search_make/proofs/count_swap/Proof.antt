@@ -3,8 +3,7 @@ use mathlib.Core.Path.{ap, ap₂}
 use native.Mathlib.Omega.{arith}
 use mir.Facts.{toZ-ofZ}
 use borrow.Author.Needs.{needs}
-use Rattle.model.specs.Change.{counted}
-use Rattle.model.specs.Ledger.{swapCount, raised}
+use Rattle.model.specs.Ledger.{swapCount, raised, counted}
 use Rattle.search_make.proofs.count_swap.Statement.{statement}
 use Rattle.search_make.proofs.count_swap.Tie as tie
 

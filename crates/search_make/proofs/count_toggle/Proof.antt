@@ -4,8 +4,7 @@ use native.Mathlib.Omega.{arith}
 use mir.Facts.{toZ-ofZ}
 use borrow.Author.Needs.{needs}
 use borrow.Author.Tests.{eq-eqb, ne-eqb}
-use Rattle.model.specs.Change.{counted}
-use Rattle.model.specs.Ledger.{onCount, offCount, raised}
+use Rattle.model.specs.Ledger.{onCount, offCount, raised, counted}
 use Rattle.search_make.proofs.count_toggle.Statement.{statement}
 use Rattle.search_make.proofs.count_toggle.Tie as tie
 

@@ -11,8 +11,8 @@ use mir.Val.{toZ, ofZ}
 use Rattle.algebra.proofs.Grid.{cell<}
 use Rattle.algebra.proofs.Machine.{read-back, factors-fit}
 use Rattle.model.specs.Error.{Target, targetFor, cellAt}
-use Rattle.model.specs.Reference.{toggle, change, lowers}
 use Rattle.model.specs.State.{LaterFits}
+use Rattle.model.specs.Change.{toggle, change, lowers}
 use Rattle.filter_window.proofs.Rows.{index-fits}
 use Rattle.search_toggles.proofs.Visit.{visit-none, visit-one, toggle-declined, toggle-accepted}
 use Rattle.search_toggles.proofs.toggle_cell.Statement.{statement}

@@ -12,11 +12,11 @@ use Rattle.algebra.proofs.Grid.{cell<}
 use Rattle.algebra.proofs.Machine.{read-back}
 use Rattle.model.specs.Basic.{AtMost}
 use Rattle.model.specs.Error.{Target, targetFor, cellAt, filteredErrors}
-use Rattle.model.specs.Reference.{swap, accept}
+use Rattle.model.specs.Reference.{accept}
 use Rattle.model.specs.Refusal.{HalftoneFits}
 use Rattle.model.specs.State.{LaterFits}
 use Rattle.model.specs.Window.{HoldsKernel}
-use Rattle.model.specs.Change.{flipped}
+use Rattle.model.specs.Change.{flipped, swap}
 use Rattle.model.proofs.Attempts.{counted-is}
 use Rattle.model.proofs.Turn.{swap-made}
 use Rattle.search_trial.proofs.Weighed.{flip-ready, flipped-fits, flip-is, error-small}

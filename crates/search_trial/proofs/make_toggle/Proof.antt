@@ -10,8 +10,9 @@ use Rattle.algebra.proofs.Grid.{cell<}
 use Rattle.algebra.proofs.Machine.{read-back, factors-fit}
 use Rattle.model.specs.Basic.{AtMost}
 use Rattle.model.specs.Error.{Target, targetFor, cellAt, filteredErrors}
-use Rattle.model.specs.Reference.{toggle, accept}
+use Rattle.model.specs.Reference.{accept}
 use Rattle.model.specs.State.{LaterFits}
+use Rattle.model.specs.Change.{toggle}
 use Rattle.model.proofs.Attempts.{counted-is}
 use Rattle.model.proofs.Turn.{toggle-made}
 use Rattle.filter_window.proofs.Rows.{index-fits}

@@ -7,8 +7,8 @@ use mir.Syntax.{w64}
 use mir.Val.{toZ, ofZ}
 use Rattle.algebra.proofs.Machine.{read-back}
 use Rattle.model.specs.Error.{targetFor, cellAt}
-use Rattle.model.specs.Reference.{Move, swap, change}
 use Rattle.model.specs.State.{LaterFits}
+use Rattle.model.specs.Change.{Move, swap, change}
 use Rattle.model.proofs.Attempts.{attempt-declined, attempt-accepted}
 use Rattle.model.proofs.State.{at-least, below}
 use Rattle.search_trial.proofs.swap.Statement.{statement}

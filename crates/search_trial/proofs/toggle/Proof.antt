@@ -9,8 +9,8 @@ use mir.Val.{toZ, ofZ}
 use Rattle.algebra.proofs.Grid.{cell<}
 use Rattle.algebra.proofs.Machine.{read-back, factors-fit}
 use Rattle.model.specs.Error.{targetFor, cellAt}
-use Rattle.model.specs.Reference.{Move, toggle, change}
 use Rattle.model.specs.State.{LaterFits}
+use Rattle.model.specs.Change.{Move, toggle, change}
 use Rattle.model.proofs.Attempts.{attempt-declined, attempt-accepted}
 use Rattle.model.proofs.State.{at-least, below}
 use Rattle.filter_window.proofs.Rows.{index-fits}

@@ -6,7 +6,7 @@ use mir.Syntax.{w64}
 use mir.Val.{toZ, ofZ}
 use Rattle.algebra.proofs.Machine.{read-back}
 use Rattle.model.specs.Error.{targetOf, squaredError}
-use Rattle.model.specs.State.{freshStats}
+use Rattle.model.specs.Ledger.{freshStats}
 use Rattle.model.proofs.Halftone.{few-cells}
 use Rattle.starts.proofs.begin.Statement.{statement}
 use Rattle.starts.proofs.begin.Tie as tie
