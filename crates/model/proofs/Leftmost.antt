@@ -7,12 +7,12 @@ use Prim.Native.Nat.{ℕ, zero, suc, _+_, _≤_, _<_}
 use native.Mathlib.Decide.{ℕ-discrete, decLt}
 use native.Mathlib.Omega.{arith}
 use lib.Seq.{take-at}
-use lib.ListN.{length, getD, take, drop, length-append, take-append-drop}
+use lib.ListN.{length, take, drop, length-append, take-append-drop}
 use Rattle.model.specs.declared.Measures.{Measures}
 use Rattle.model.specs.Text.{digits, NoDigit}
 use Rattle.model.specs.Sheet.{Sheet, roomFor, valuesOf, Shaped, InRange, Begins, Stops}
-use Rattle.model.specs.SheetRefusal.{Section, line2, psfRows, grayRows, dotsRows, numbersIn, least, most}
-use Rattle.model.specs.SheetRefusal.{headText, textBefore, Outside, Short, Draws, Leftmost}
+use Rattle.model.specs.SheetRefusal.{Section, line2, psfRows, grayRows, dotsRows, numbersIn, numberAt, least}
+use Rattle.model.specs.SheetRefusal.{most, headText, textBefore, Outside, Short, Draws, Leftmost}
 use Rattle.model.specs.Format.{head, body, textOf, measuresOf, headOf, Read, sheetOf, readSheet}
 use Rattle.model.proofs.Text.{Beyond, digits-some}
 use Rattle.model.proofs.Format.{OutsideAt, good-head, good-body}
@@ -49,7 +49,7 @@ never-both {b} {o} z n =
     (λ h. omega (arith, h .0, l, some, ap length e, length-append q (n .rest))) (z .here)
   where
     v : ℕ
-    v = getD (numbersIn (n .section) (n .sheet)) (n .index) 0
+    v = numberAt (n .section) (n .sheet) (n .index)
 
     before : List ℕ
     before = textBefore (n .section) (n .sheet) (n .index)
@@ -165,14 +165,14 @@ module _ (b : List ℕ) (p g d : ℕ) where
             whole = λ x f h. absurd (omega arith);
           })
 
-      below : (k : Section) → AfterLine2 s k i → let v = getD (numbersIn k s) i 0 in
+      below : (k : Section) → AfterLine2 s k i → let v = numberAt k s i in
           i < length (numbersIn k s) → b ≡ textBefore k s i ++ (digits v ++ z .rest) → Beyond (least k i) (most k i) v
           → o ≡ length (textBefore k s i) → Q (readSheet b p g d)
       below k a h e out q =
           go (head-read m (a .text ++ u) (e ∙ ap (λ l. l ++ u) (a .before) ∙ append-assoc (headText m) (a .text) u))
         where
           u : List ℕ
-          u = digits (getD (numbersIn k s) i 0) ++ z .rest
+          u = digits (numberAt k s i) ++ z .rest
 
           l : o ≡ length (headText m) + length (a .text)
           l = q ∙ ap length (a .before) ∙ length-append (headText m) (a .text)
@@ -187,7 +187,7 @@ module _ (b : List ℕ) (p g d : ℕ) where
               under-lines y (omega (arith, l)) (x′ .0, omega (arith, l, x′ .1))
           go (inr (y, j)) = in-lines y (omega (arith, l))
 
-      by-section : (k : Section) → let v = getD (numbersIn k s) i 0 in
+      by-section : (k : Section) → let v = numberAt k s i in
           i < length (numbersIn k s) → b ≡ textBefore k s i ++ (digits v ++ z .rest) → Beyond (least k i) (most k i) v
           → o ≡ length (textBefore k s i) → Q (readSheet b p g d)
       by-section line2 h e out q =

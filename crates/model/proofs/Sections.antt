@@ -13,8 +13,8 @@ use Rattle.model.specs.Basic.{pick}
 use Rattle.model.specs.Text.{digits}
 use Rattle.model.specs.Sheet.{Sheet, sideOf, entriesOf, cellsOf, rows, endOf, gridText, psfName, grayName}
 use Rattle.model.specs.Sheet.{dotsName, valuesOf, dotsText, sheetText, Shaped}
-use Rattle.model.specs.SheetRefusal.{Section, line2, psfRows, grayRows, dotsRows, numbersIn, perRow, least, most}
-use Rattle.model.specs.SheetRefusal.{headText, above, textBefore}
+use Rattle.model.specs.SheetRefusal.{Section, line2, psfRows, grayRows, dotsRows, numbersIn, numberAt, perRow}
+use Rattle.model.specs.SheetRefusal.{least, most, headText, above, textBefore}
 use Rattle.model.specs.Format.{Part, fixed, number, grid, block, head, psfBlock, grayBlock, dotsBlock, body}
 use Rattle.model.specs.Format.{textOf}
 use Rattle.model.proofs.Rows.{rows-grid}
@@ -72,7 +72,7 @@ module _ (s : Sheet) (shaped : Shaped s) where
 
   -- and each after those before it
   pub number-in-text : (k : Section) (i : ℕ) → i < length (numbersIn k s)
-      → (more : List ℕ) × (sheetText s ≡ textBefore k s i ++ (digits (getD (numbersIn k s) i 0) ++ more))
+      → (more : List ℕ) × (sheetText s ≡ textBefore k s i ++ (digits (numberAt k s i) ++ more))
   number-in-text k i h =
       let (t, e) = section-text k (omega arith) in
       let (u, f) = grid-at (perRow k s) 0 i (numbersIn k s) h in
@@ -154,7 +154,7 @@ ValueOutside s t v =
     × (i : ℕ)
     × (i < length (numbersIn k s))
     × (t ≡ textBefore k s i)
-    × (v ≡ getD (numbersIn k s) i 0)
+    × (v ≡ numberAt k s i)
     × Beyond (least k i) (most k i) v
 
 pub head-text : (m : Measures) → textOf head (valuesOf m) ≡ headText m
@@ -324,7 +324,7 @@ module _ (s : Sheet) where
   pub record AfterLine2 (k : Section) (i : ℕ) : Type 0 where
     pub text : List ℕ
     pub before : textBefore k s i ≡ headText (s .measures) ++ text
-    pub is-outside : let v = getD (numbersIn k s) i 0 in
+    pub is-outside : let v = numberAt k s i in
         Shaped s → 1 ≤ s .measures .width → i < length (numbersIn k s) → Beyond (least k i) (most k i) v
         → OutsideAt (body (s .measures)) (valuesIn s) text v
 

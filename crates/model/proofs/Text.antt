@@ -1,8 +1,9 @@
 -- Laws of texts: the digits of a number and those of its tenth, the digits read back as the number (257 where it is
 -- above 256, whatever its length), that no two numbers have the same digits, and the number that was read as its digits.
-use mathlib.Core.Path.{_≡_, refl, _∙_, ap, sym, subst}
-use mathlib.Core.Bool.{Bool, true, false, _&&_, and-eq-true-iff}
-use mathlib.Core.List.{List, [], _∷_, _++_, append-assoc, append-nil}
+use mathlib.Core.Path.{_≡_, refl, _∙_, ap, sym}
+use mathlib.Core.Bool.{Bool, true, false, true≢false, _&&_, and-eq-true-iff, and-false}
+use mathlib.Core.Logic.{_⊎_, inl, inr}
+use mathlib.Core.List.{List, [], _∷_, _++_, append-assoc}
 use Prim.Native.Nat.{ℕ, zero, suc, _+_, _-_, _*_, _/_, _%_, _^_, _≤_, _<_}
 use native.Mathlib.Nat.{add-assoc, le-refl, pow-suc}
 use native.Mathlib.Omega.{arith}

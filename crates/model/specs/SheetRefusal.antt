@@ -21,6 +21,9 @@ numbersIn psfRows s = s .psf
 numbersIn grayRows s = s .gray
 numbersIn dotsRows s = s .dots
 
+abbrev pub numberAt : Section → Sheet → ℕ → ℕ
+numberAt k s i = getD (numbersIn k s) i 0
+
 -- how many stand in a row
 abbrev pub perRow : Section → Sheet → ℕ
 perRow line2 s = 5
@@ -66,8 +69,9 @@ above dotsRows s = aboveDots s
 abbrev pub textBefore : Section → Sheet → ℕ → List ℕ
 textBefore k s i = above k s ++ gridText (perRow k s) 0 (take i (numbersIn k s))
 
--- ---- what draws 11 and 12; 10 is drawn where the text `Stops` to be one of a sheet
--- 11: after the beginning of a sheet stands a number of it outside its field, of any size, as a whole run of digits
+-- ---- what draws 11 and 12; what draws 10 is `Stops`
+-- 11: a number of a sheet stands after the text before it, of any size and as a whole run of digits, and is outside its
+-- field
 pub record Outside (b : List ℕ) (at : ℕ) : Type 0 where
   pub sheet : Sheet
   pub shaped : Shaped sheet
@@ -75,10 +79,9 @@ pub record Outside (b : List ℕ) (at : ℕ) : Type 0 where
   pub index : ℕ
   pub rest : List ℕ
   pub number : index < length (numbersIn section sheet)
-  pub text : let v = getD (numbersIn section sheet) index 0 in
-      b ≡ textBefore section sheet index ++ (digits v ++ rest)
+  pub text : b ≡ textBefore section sheet index ++ (digits (numberAt section sheet index) ++ rest)
   pub run : NoDigit rest
-  pub outside : let v = getD (numbersIn section sheet) index 0 in (v < least section index) ⊎ (most section index < v)
+  pub outside : let v = numberAt section sheet index in (v < least section index) ⊎ (most section index < v)
   pub place : at ≡ length (textBefore section sheet index)
 
 -- 12: after lines 1 and 2 with some measures, for which the buffers are too short
