@@ -12,6 +12,7 @@ use Rattle.model.proofs.Converge.{converge-rule, converge-only}
 use Rattle.model.proofs.Demand3.{demand-3, left-is-accepted}
 use Rattle.model.proofs.State.{fits-accepted, accepted-fits}
 use Rattle.model.proofs.Text.{digits-low, digits-more, number-low, number-high, yielded-number, leading-zero}
+use Rattle.model.proofs.Text.{nothing-yielded}
 use Rattle.model.proofs.Sheet.{read-exactly, read-back, same-text, written-whole, written-back}
 use Rattle.model.proofs.Refused.{read-within}
 use Rattle.model.proofs.Leftmost.{refused-is-leftmost, leftmost-is-refused, read-draws-nothing}
@@ -67,6 +68,7 @@ promises =
         above-256-is-257 = number-high;
         yielded-is-a-number = yielded-number;
         no-digit-after-0 = leading-zero;
+        nothing-past-the-end = nothing-yielded;
       };
       reading-promises = λ b p g d. record {
         read-sheet-is-text = read-exactly b p g d;

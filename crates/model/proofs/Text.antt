@@ -10,7 +10,7 @@ use native.Mathlib.Omega.{arith}
 use borrow.Author.Tests.{ltb-true, ltb-false, lt-ltb, le-ltb, le-leb, lt-leb, leb-true, leb-false, eqb-true, eqb-false}
 use borrow.Author.Tests.{ne-eqb}
 use lib.Dec.{leb, ltb, eqb}
-use lib.ListN.{length, drop, length-append}
+use lib.ListN.{drop-of-length-le, length, drop, length-append}
 use Rattle.model.specs.declared.Item.the-variants.{Word, Number, LineEnd, Other}
 use Rattle.model.specs.declared.Run.{Run}
 use Rattle.model.specs.declared.Step.{Step}
@@ -284,6 +284,10 @@ pub number-high : (s : List ℕ) (at n : ℕ) (rest : List ℕ) → drop at s �
     → stepAt s at ≡ step (Number 257) at (at + length (digits n))
 number-high s at n rest e nd h =
     number-yielded s at n rest e nd ∙ ap (λ v. step (Number v) at (at + length (digits n))) (capped-high n h)
+
+-- past the end nothing is
+pub nothing-yielded : (s : List ℕ) (at : ℕ) → length s ≤ at → stepAt s at ≡ step Other at at
+nothing-yielded s at h = rw (drop-of-length-le s h)
 
 -- in a longer run that begins 0 the second digit cannot be there
 pub leading-zero : (s : List ℕ) (at x : ℕ) (rest : List ℕ) → drop at s ≡ 48 ∷ x ∷ rest → isDigit x ≡ true

@@ -1,33 +1,25 @@
 -- Document 01 as definitions, in its order: all that a contract cites, and last the promises.
 pub mod Basic
-
 -- Plate, spread and peak
 pub mod Psf
-
 -- Table and squared error
 pub mod Error
 pub mod Window
-
 -- One change
 pub mod Ledger
 pub mod Change
-
 -- Starts
 pub mod Screen
-
 -- Scans and settling
 pub mod Partners
 pub mod Scan
-
 -- Refused because of the input, and because of the state
 pub mod Refusal
 pub mod State
-
 -- Lists of calls: the plain plate, the calls, and lists of them
 pub mod Reference
 pub mod Calls
 pub mod Lists
-
 -- Sheet and program
 pub mod Text
 pub mod Sheet
@@ -35,13 +27,10 @@ pub mod SheetRefusal
 pub mod Format
 pub mod SheetCalls
 pub mod Program
-
 -- the C interface
 pub mod Interface
-
 -- Examples
 pub mod Examples
-
 -- what is promised
 pub mod ProgramPromises
 pub mod Promises

@@ -270,6 +270,8 @@ pub record NumberPromises : Type 0 where
   -- in a longer run that begins 0 the second digit cannot be there
   pub no-digit-after-0 : (s : List ℕ) (at x : ℕ) (rest : List ℕ) → drop at s ≡ 48 ∷ x ∷ rest → isDigit x ≡ true
       → stepAt s at ≡ step Other (at + 1) (at + 1)
+  -- and past the end there is nothing
+  pub nothing-past-the-end : (s : List ℕ) (at : ℕ) → length s ≤ at → stepAt s at ≡ step Other at at
 
 -- reading these bytes, with buffers of these lengths for psf, gray and dots
 module _ (b : List ℕ) (p g d : ℕ) where
@@ -310,7 +312,7 @@ module _ (m : Measures) (psf gray : List ℕ) where
   pub record InterfacePromises : Type 0 where
     -- a ledger that was stored is read back as it was
     pub stored-stats-read-back : (s : Stats) → statsIn (numbers s) ≡ s
-    -- over a slice of that size a start and each later call is that of document 01, refused alike
+    -- over a slice of six numbers a start and each later call is that of document 01, refused alike
     pub start-takes-its-slice : (dots : List ℕ) (table stats : List ℤ) → length stats ≡ statsSize
         → startOver m psf gray dots table stats ≡ startCall m psf gray dots table
     pub calls-take-their-slice : (h : Slices) (c : Call) → length (h .stats) ≡ statsSize

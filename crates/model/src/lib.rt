@@ -75,6 +75,21 @@ pub enum Converged {
     Refused(u32),
 }
 
+// The answer of reading a sheet: its measures, or refused with the number of document 01 and the byte offset.
+pub enum Reading {
+    Done(Measures),
+    Refused(u32, usize),
+}
+
+// The answer of writing a sheet: its length, or refused with the number of document 01 and the byte offset, which is 0
+// where there is no place.
+pub enum Writing {
+    Done(usize),
+    Refused(u32, usize),
+}
+
+// ---- the types of inner functions, which no public call answers
+
 // What a reader finds next in a text: a word, a number (257 stands for all above 256), a line end, or none of these.
 pub enum Item {
     Word,
@@ -115,17 +130,4 @@ pub struct Head {
     pub refusal: u32,
     pub at: usize,
     pub measures: Measures,
-}
-
-// The answer of reading a sheet: its measures, or refused with the number of document 01 and the byte offset.
-pub enum Reading {
-    Done(Measures),
-    Refused(u32, usize),
-}
-
-// The answer of writing a sheet: its length, or refused with the number of document 01 and the byte offset, which is 0
-// where there is no place.
-pub enum Writing {
-    Done(usize),
-    Refused(u32, usize),
 }
