@@ -12,7 +12,7 @@ Storable s =
 -- it holds of the result, where there is one
 abbrev pub Holds : {A : Type 0} → (A → Type 0) → Reply A → Type 0
 Holds P (result a) = P a
-Holds P (refused n) = Unit {0}
+Holds P (refused n o) = Unit {0}
 
 abbrev pub TriedStorable : Tried → Type 0
 TriedStorable (accepted s d) = Storable s

@@ -5,7 +5,8 @@ use native.Mathlib.Omega.{arith}
 use borrow.Author.Needs.{needs}
 use Rattle.model.specs.Refusal.{writeRefusal}
 use Rattle.model.specs.Sheet.{InRange, Shaped}
-use Rattle.model.specs.SheetCalls.{result, writtenSheet}
+use Rattle.model.specs.Calls.{result}
+use Rattle.model.specs.SheetCalls.{writtenSheet}
 use Rattle.model.proofs.Sheet.{written-shaped}
 use Rattle.sheet.proofs.Outcomes.{wrote, write-refused, write-short, write-done}
 use Rattle.sheet.proofs.write_sheet.Statement.{statement}
