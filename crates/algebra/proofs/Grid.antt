@@ -1,4 +1,8 @@
 -- The cells of a grid of W columns, row by row: cell y × W + x stands in row y and column x.
+--   cell-row, cell-column  its row and its column
+--   rows-apart             a row further down starts a whole row later
+--   cell<                  a row and a column of the grid give one of its cells
+--   row<, column<          a cell stands in one of its rows and columns
 use mathlib.Core.Path.{_≡_, _∙_}
 use Prim.Native.Nat.{ℕ, _+_, _*_, _/_, _%_, _≤_, _<_}
 use native.Mathlib.Nat as NatL

@@ -1,5 +1,9 @@
--- Sums over an interval of ℤ: the shift, the split, and the window outside which a function is 0. Then sums of
--- products of two such functions, one shifted against the other, and the most that a sum over a grid can be.
+-- Sums over an interval of ℤ, also of functions that are 0 outside a window (`Supported`, `Supported2`).
+--   sumFrom-cong, sumFrom-scale                   terms that are equal, and scaled
+--   sumFrom-swap, sumFrom-swap2                   two sums exchanged; two with two others
+--   sumFrom-shift, sumFrom-split, sumFrom-nonneg  the interval shifted, and split; terms that are never negative
+--   correlate-turn, correlate-widened             sums of products of two functions, one shifted against the other
+--   grid≤, grid-whole                             the most that a sum over a grid can be; a grid that covers the square
 use mathlib.Core.Path.{_≡_, refl, sym, _∙_, ap, ap₂, subst}
 use mathlib.Core.List.{[], _∷_}
 use Prim.Native.Nat.{ℕ, suc, _+_, _*_, _-_, _<_}

@@ -1,5 +1,10 @@
--- Signed machine numbers of any width: the bits n of a local stand for an integer z that is at most k from 0. Each
--- operation has two laws: that it does not wrap (`-fits`), and what the bits it leaves stand for (`-holds`).
+-- Signed machine numbers of any width: the bits n of a local stand for an integer z that is at most k from 0 (`Holds`).
+-- Each operation has two laws: that it does not wrap (`-fits`), and what the bits it leaves stand for (`-holds`).
+--   of-cast, literal, of-small       where a local comes from: a cast, a literal, or a parameter, an element, a result
+--   read-back, size-of, named        the number read back from its bits, its size, and it under an equal name
+--   cast-fits, cast-holds            from one signed width to another
+--   add-holds, sub-holds, mul-holds  sum, difference, product
+--   factors-fit                      an unsigned product of 64 bits
 use mathlib.Core.Path.{_≡_, sym, _∙_, subst}
 use Prim.Native.Nat.{ℕ, _+_, _*_, _^_, _≤_, _<_}
 use native.Mathlib.Nat.{le-trans, le-refl, lt-of-le-of-lt, mul-le-mul}

@@ -1,4 +1,7 @@
--- Laws of a grid that is moved: which cell comes to a place, and what one grid moved by the places of another gathers.
+-- Laws of a grid that is moved.
+--   moved-one, moved-none, moved-cases  which cell comes to a place, if any
+--   moved-cong                          grids that are equal
+--   moved-swap                          a grid moved by the places of another, and weighed by it: the two exchanged
 use mathlib.Core.Path.{_≡_, sym, _∙_, ap, ap₂}
 use Prim.Native.Nat.{ℕ, _+_, _*_, _-_, _/_, _%_, _<_}
 use native.Mathlib.Nat as NatL

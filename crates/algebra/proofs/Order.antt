@@ -1,5 +1,10 @@
 -- The order of ℤ read as an order of ℕ, for omega: z is pos (pp z) − pos (nn z), and an expression over atoms is
 -- up − dn. Then the sizes of integers, and the order of products and of sums.
+--   ordℤ                                      the order of two integers by their parts, as rules for omega
+--   read<, read≤, show≤, show<, read≡, show≡  expressions: read a hypothesis, show a goal
+--   natAbs-show, natAbs-+ℤ, natAbs-mul-le     the size of an expression, of a sum, of a product
+--   natAbs-below, natAbs-above                of an integer between bounds
+--   0≤-mul, 0≤-square, +ℤ-mono, ≤ℤ-trans      products that are not negative, sums in order
 use mathlib.Core.Path.{_≡_, refl, sym, _∙_, ap, ap₂}
 use mathlib.Core.List.{List, [], _∷_}
 use Prim.Native.Nat.{ℕ, zero, suc, _+_, _*_, _≤_, _<_}

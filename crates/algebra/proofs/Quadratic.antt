@@ -1,6 +1,9 @@
 -- The law of an edit (document 004, equations 13 and 21): what a list of cells, each with the amount it gains, adds to
--- the transform and to the quadratic form of a symmetric kernel. Then a sum of squares of linear forms as a quadratic
--- form.
+-- the transform and to the quadratic form of a symmetric kernel. Then a sum of squares of linear forms.
+--   transform-edit  what an edit adds to the transform
+--   quadratic-edit  and to the quadratic form
+--   quadratic-cong  kernels that are equal
+--   gram            a double sum of squares of linear forms is the quadratic form of their Gram matrix
 use mathlib.Core.Path.{_≡_, refl, sym, _∙_, ap, ap₂}
 use mathlib.Core.List.{List, [], _∷_}
 use Prim.Native.Nat.{ℕ, _<_}

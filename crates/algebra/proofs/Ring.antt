@@ -1,4 +1,9 @@
 -- ℤ is a commutative ring: the laws that lib.IntN leaves out.
+--   +ℤ-left-comm, +ℤ-swap4  sums rearranged
+--   *ℤ-distr, *ℤ-distl      a product distributes over a sum
+--   negℤ-*ℤ, *ℤ-negℤ        a factor that is negated
+--   *ℤ-assoc, *ℤ-left-comm  products rearranged
+--   ringℤ                   the laws that bring an expression to a sum of products, for simp
 use mathlib.Core.Path.{_≡_, sym, _∙_, ap, ap₂}
 use Prim.Native.Nat.{zero, suc}
 use lib.IntN.{ℤ, pos, negsuc, predℤ, negℤ, _+ℤ_, _-ℤ_, _*ℤ_, +ℤ-assoc, +ℤ-comm, +ℤ-idl, +ℤ-idr, +ℤ-invl, +ℤ-sucℤ}

@@ -1,6 +1,9 @@
 -- A solver for ring identities of ℤ: both sides are read as expressions over a list of atoms, brought to a sorted
--- polynomial with integer coefficients, and compared by `refl`. It is used as
---   ring! (a ∷ b ∷ []) (search reify depth 40) refl
+-- polynomial with integer coefficients, and compared by `refl`.
+--   norm, norm-sound  the polynomial of an expression, and that their values are equal
+--   quote, quote-is   the expression of a term of ℤ, and that its value is the term
+--   reify             the rules by which `search` reads a term
+--   ring!             an identity: ring! (a ∷ b ∷ []) (search reify depth 40) refl
 use mathlib.Core.Path.{_≡_, refl, sym, _∙_, ap, ap₂}
 use mathlib.Core.List.{List, [], _∷_}
 use mathlib.Core.Bool.{Bool, true, false}

@@ -1,4 +1,9 @@
--- Laws of finite sums: congruence, linearity, exchange, splitting, a single term, and sums over a list.
+-- Laws of finite sums, from 0 to n - 1 and over a list.
+--   sum-next, sum-cong, sum-zeros    one term more, terms that are equal, terms that are 0
+--   sum-add, sum-scale, sum-scale-r  linearity
+--   sum-swap, sum-split, sum-mul     two sums exchanged, a sum split, a product of two sums
+--   sum-one, sum-point               a sum of which only one term is not 0
+--   sumOver-cong, sumOver-scale      over a list
 use mathlib.Core.Path.{_≡_, refl, sym, _∙_, ap, ap₂}
 use mathlib.Core.List.{List, [], _∷_}
 use mathlib.Core.Bool.{Bool, true, false, cond}

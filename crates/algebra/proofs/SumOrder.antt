@@ -1,4 +1,9 @@
 -- Finite sums of integers: their order, their sizes, and sums over the cells of a grid.
+--   sum-mono, sum-nonneg  terms that are at most others; terms that are not negative
+--   natAbs-sum            small terms
+--   sum-first≤            the first terms of a sum that has no negative term
+--   weighted≤             small terms with weights that are never negative
+--   sum-grid, sum-cells   row by row: by the cell, and by its row and column
 use mathlib.Core.Path.{_≡_, sym, _∙_, ap, ap₂, subst}
 use mathlib.Core.List.{[], _∷_}
 use Prim.Native.Nat.{ℕ, zero, suc, _+_, _*_, _-_, _/_, _%_, _≤_, _<_}

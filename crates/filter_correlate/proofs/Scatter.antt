@@ -1,6 +1,8 @@
--- A loop that adds a window to a table in each turn: what a turn asks of the table and what it leaves, where the table
--- is known by its entries; that the table built so from a psf is its autocorrelation; and that a list with the
--- autocorrelation in its front holds the kernel.
+-- The autocorrelation by windows of the psf, one in each turn of a loop.
+--   table-next                  the table one window further
+--   mirrored-small, side-small  the sizes of its entries on the way, and how many entries a psf has
+--   mirrored-is                 the table built so from a psf is its autocorrelation
+--   front-holds                 a list with the autocorrelation in its front holds the kernel
 use mathlib.Core.Path.{_≡_, sym, _∙_, ap, ap₂, subst}
 use mathlib.Core.List.{List, _++_, map}
 use Prim.Native.Nat.{ℕ, _+_, _*_, _≤_}

@@ -1,5 +1,8 @@
--- The two passes that build the table: a block added row by row, a pass one entry of the psf further, the sizes on the
--- way, and that the second pass leaves the filtered error.
+-- The two passes that build the table, each entry by entry of the psf.
+--   added-none, added-next                        a block added row by row
+--   spread-none, spread-next, spread-small        the first pass, one entry further, and the sizes on the way
+--   gathered-none, gathered-next, gathered-small  the second pass, likewise
+--   gathered-is                                   the second pass leaves the filtered error
 use mathlib.Core.Path.{_≡_, refl, sym, _∙_, ap, ap₂}
 use mathlib.Core.List.{List}
 use Prim.Native.Nat.{ℕ, _+_, _*_, _-_, _/_, _%_, _≤_, _<_}

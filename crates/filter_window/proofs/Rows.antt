@@ -1,5 +1,7 @@
--- The window added row by row: before the first turn of the loop, after one turn more, and after the last; and where
--- the run of a row stands.
+-- The window added row by row, and where the run of a row stands.
+--   Rows                             the window is added to the rows above y
+--   rows-start, rows-next, rows-end  before the first turn of the loop, after one turn more, and after the last
+--   index-fits, run-ends             the first index of a run is small, and its entries end within the rows
 use mathlib.Core.Path.{_≡_, refl, sym, _∙_}
 use mathlib.Core.Logic.{_⊎_, inl, inr}
 use mathlib.Core.List.{List}

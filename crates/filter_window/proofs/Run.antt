@@ -1,4 +1,4 @@
--- The run added entry by entry: before the first turn of the loop, and after one turn more.
+-- The run added entry by entry: before the first turn of the loop (`run-start`), and after one turn more (`run-next`).
 use mathlib.Core.Path.{_≡_, refl, _∙_}
 use mathlib.Core.List.{List}
 use Prim.Native.Nat.{ℕ, _+_, _<_}

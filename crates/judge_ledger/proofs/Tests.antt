@@ -1,5 +1,8 @@
--- The tests of 21, one after the other: each draws it, and where none does it is not drawn. `apart`, `holds`: tests that
--- cannot fail; `total-…`: the dots on the plate against the counts; `drawn`, `undrawn`: the number.
+-- The tests of 21, one after the other.
+--   holds, apart             tests that cannot fail
+--   total-same, total-apart  the dots on the plate against the counts
+--   sum-fits                 the sums that are compared fit
+--   drawn, undrawn           each test draws 21, and where none does it is not drawn
 use mathlib.Core.Bool.{Bool, true, false, or-assoc, or-false}
 use mathlib.Core.List.{List, [], _∷_}
 use mathlib.Core.Path.{_≡_, refl, sym}

@@ -1,6 +1,8 @@
--- What the proofs of the judges share: the sum of a list of bytes and whether one is above a bound, each from an index
--- on as a loop takes them; the laws by which a return is read off its tests; and what is known once 1 and 2 are judged,
--- or 5.
+-- What the proofs of the judges share.
+--   total-next              the sum of a list of bytes from an index on, as a loop takes it
+--   above-here, above-next  whether one of them is above a bound, likewise
+--   tests                   the laws by which a return is read off its tests
+--   sized, psf-most         what is known once 1 and 2 are judged; once 5 is
 use mathlib.Core.Bool.{true, not}
 use mathlib.Core.List.{List, [], _∷_}
 use mathlib.Core.Path.{_≡_}

@@ -1,5 +1,6 @@
--- 20: a table compared with one that is worked out afresh. `below-…`: a test of the numbers below n, one after the other;
--- `table-…`: the number.
+-- 20: a table compared with one that is worked out afresh.
+--   below-here, below-next     a test of the numbers below n, one after the other
+--   table-drawn, table-passed  20 where they differ; else what 21 draws
 use mathlib.Core.Bool.{Bool, true, false, true≢false, _||_}
 use mathlib.Core.List.{List, [], _∷_}
 use mathlib.Core.Path.{_≡_, refl, sym, _∙_, ap, ap₂}

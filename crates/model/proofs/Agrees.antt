@@ -1,5 +1,10 @@
 -- How far what is read agrees with a text: up to the place where the reader stops it is the beginning of a text of the
--- parts, with some values of any size; and what is read whole is the text of its values, each in its field.
+-- parts, with some values of any size.
+--   Agrees                      the bytes from a place on, up to another, are those of a text
+--   fixed-agrees, field-agrees  of fixed bytes; of a number and the byte that ends it
+--   parse-agrees                of parts, with the values that were read and some others after a refusal
+--   parse-rises                 the place never goes back
+--   read-text                   what is read whole is the text of its values, each in its field
 use mathlib.Core.Path.{_≡_, refl, _∙_, ap, ap₂, sym, subst}
 use mathlib.Core.Bool.{Bool, true, false, _&&_}
 use mathlib.Core.Logic.{_⊎_, inl, inr}

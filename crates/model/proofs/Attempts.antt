@@ -1,5 +1,9 @@
--- An attempt that is not refused: what it answers and leaves, declined or accepted, and that later calls accept what it
--- leaves.
+-- An attempt that is not refused: what it answers and leaves, and that later calls accept what it leaves.
+--   toggle-ready, swap-ready            what it was handed fits, and its change is legal
+--   attempt-cases                       its change lowers E and it is accepted, or it is declined
+--   attempt-declined, attempt-accepted  what is answered and left in each case
+--   Sound, entry-sound, accept-sound    later calls accept what there is: at an entry, after an accepted change
+--   toggle-tries, swap-tries            the promise of an attempt
 use mathlib.Core.List.{List, [], _∷_}
 use mathlib.Core.Path.{_≡_, refl, sym, _∙_, ap, ap₂, subst}
 use Prim.Native.Nat.{ℕ}

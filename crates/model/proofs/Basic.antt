@@ -1,5 +1,9 @@
--- Laws of the general definitions: a choice, what holds of every entry of a list, a bounded list, a list by its
--- entries, a list that a loop fills, and an entry of a square, inside it and outside.
+-- Laws of the general definitions: a choice, a list by its entries, and an entry of a square.
+--   pick-cases, zero-cases             a choice by what is known of its test, or of a number that is tested for 0
+--   length-tabulate, getD-tabulate     the length and the entries of a list that is tabulated
+--   fill-none, fill-next, fill-all     a list that a loop fills from the front
+--   squareAt-inside, squareAt-outside  an entry of a square by the two cells that its offset lies between
+--   square-by                          a square that holds f inside, where f is 0 outside, holds f at every offset
 use mathlib.Core.Path.{_≡_, refl, sym, _∙_, ap, ap₂, subst}
 use mathlib.Core.Bool.{Bool, true, false}
 use mathlib.Core.Logic.{_⊎_, inl, inr}

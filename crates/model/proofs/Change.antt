@@ -1,5 +1,10 @@
 -- Laws of one change. Storing a byte adds to the error at one cell, so the law of an edit says what any list of stores
 -- does to E and to the table; document 01's formulas for a toggle and a swap are the cases of one cell and of two.
+--   change-least                          a change below 0 is at most -step
+--   byte-swap-change                      what a swap of any two bytes adds to E
+--   toggle-change, swap-change            document 01's formulas are the differences of the sums
+--   toggle-moves-table, swap-moves-table  what each T(q) gains
+--   flip-table                            the table with one dot turned, by a window
 use mathlib.Core.Path.{_≡_, refl, sym, _∙_, ap, ap₂}
 use mathlib.Core.List.{List, [], _∷_}
 use Prim.Native.Nat.{ℕ, _*_, _/_, _%_, _<_}

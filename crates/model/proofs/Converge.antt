@@ -1,5 +1,9 @@
--- Laws of convergence (01: settling), for every target. It keeps to document 01's rule, and nothing else does; what
--- each accepted change keeps, it keeps; its scans are few; and it ends at rest, by its last two scans alone.
+-- Laws of convergence (01: settling), for every target.
+--   converge-rule, converge-only                 it keeps to document 01's rule, and nothing else does
+--   converge-again, converge-anew, converge-end  the rule as a loop steps by it
+--   converge-keeps                               what each accepted change keeps, it keeps
+--   converge-scans, converge-counts              its scans are few, and no accepted change is forgotten
+--   converge-rest                                it ends at rest, by its last two scans alone
 use mathlib.Core.Bool.{Bool, true, false}
 use mathlib.Core.Path.{_≡_, refl, sym, _∙_, ap, subst}
 use Prim.Native.Nat.{ℕ, zero, suc, _+_, _*_, _≤_, _<_}

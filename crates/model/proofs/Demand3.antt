@@ -1,4 +1,5 @@
--- Demand 3: what holds after every list of calls from a start, and that what a call leaves is accepted again.
+-- Demand 3 (specs/Promises.antt): what holds after every list of calls from a start (`demand-3`), and that what a call
+-- leaves is accepted again (`left-is-accepted`).
 use mathlib.Core.Path.{_≡_, refl, sym, ap, subst}
 use mathlib.Core.List.{List}
 use Prim.Native.Nat.{ℕ, _*_}

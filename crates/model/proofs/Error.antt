@@ -1,6 +1,9 @@
--- Laws of the filtered error T and the squared error E: the kernel is symmetric; what an edit does to T and E; E is the
--- sum of the squares of the perceived error, so it is never negative; and the bounds of T and E, by which the machine
--- arithmetic does not wrap.
+-- Laws of the filtered error T and the squared error E.
+--   filtered-long, weighed-is          the length of the table; E by one pass over it
+--   kernel-symmetric                   c(n - m) = c(m - n)
+--   filtered-edit, squared-edit        what an edit, a list of cells with amounts, does to T and to E
+--   squared-perceived, squared-nonneg  E is the sum of the squares of the perceived error, so it is never negative
+--   filtered≤, squared≤, error≤        the bounds of T, E and e, by which the machine arithmetic does not wrap
 use mathlib.Core.Path.{_≡_, refl, sym, _∙_, ap, ap₂, subst, fun-ext}
 use mathlib.Core.List.{List, [], _∷_}
 use Prim.Native.Nat.{ℕ, _+_, _*_, _/_, _%_, _≤_, _<_}

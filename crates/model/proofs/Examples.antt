@@ -1,5 +1,5 @@
--- The starred examples of document 01 hold, and plates at rest break the half-peak bound on its other side: each figure is
--- computed from the sums.
+-- The starred examples of document 01 hold (`examples`), and plates at rest break the half-peak bound on its other side
+-- (`one-sided`): each figure is computed from the sums.
 use mathlib.Core.Path.{refl}
 use native.Mathlib.Omega.{arith}
 use Rattle.algebra.specs.Sum.{sumTo, sumFrom}

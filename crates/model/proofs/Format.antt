@@ -1,4 +1,9 @@
 -- Laws of a format: which values its parts ask for, and how their text and their reading go on to the parts after them.
+--   numbers, Inside, OutsideAt   how many values; each in its field; one outside its field
+--   good-head, good-body         every field of a sheet ends at 256 at the latest, and no number is ended by a digit
+--   text-append                  the text of parts after parts
+--   parse-append, parse-refused  reading parts after parts that were read, and after parts that were refused
+--   parse-draws                  the refusals are 10 and 11
 use mathlib.Core.Path.{_≡_, refl, _∙_, ap, sym}
 use mathlib.Core.Bool.{false, _&&_}
 use mathlib.Core.Logic.{_⊎_, inl, inr, ⊎-elim}

@@ -1,5 +1,9 @@
--- What holds of every halftone (01: plate) that is not refused: how many cells it has, that E is the sum of the squares
--- of the perceived error, and, its gray being made of bytes, the size of its errors, of T and of E.
+-- What holds of every halftone (01: plate) that is not refused.
+--   few-cells                                     its cells are at most 65,536
+--   squared-least                                 E is never negative, whatever the gray
+--   errors-most, filtered-small, squared-most     the sizes of errors, table and E, gray being made of bytes
+--   taken-filtered                                the bound of |T|, by what the calls refuse
+--   taken-perceived, taken-nonneg, taken-squared  E as the sum of the squares of the perceived error, and its bounds
 use mathlib.Core.List.{List, [], _∷_}
 use mathlib.Core.Path.{_≡_, _∙_}
 use Prim.Native.Nat.{ℕ, _*_, _≤_}

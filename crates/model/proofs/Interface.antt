@@ -1,5 +1,8 @@
--- The C interface: over a slice of the right size its starts and later calls are those of document 01, so its lists of
--- calls are lists of calls; and the change of an attempt tells whether it was accepted.
+-- The C interface: over a slice of the right size its calls are those of document 01.
+--   start-over, call-over         a start and each later call, refused alike
+--   toggle-is-told, swap-is-told  the change of an attempt tells whether it was accepted
+--   stored-read                   a ledger that was stored is read back as it was
+--   run-over                      its lists of calls are lists of calls, so demand 3 holds of them
 use mathlib.Core.Bool.{false}
 use mathlib.Core.List.{List, [], _∷_, _++_}
 use mathlib.Core.Path.{_≡_, refl, sym, _∙_, ap, subst}

@@ -1,4 +1,8 @@
--- The later calls: what one was handed that draws no refusal, and that nothing of 1 to 7, 20 and 21 is drawn by it.
+-- The later calls: what one was handed that is not refused, and what is drawn where that fits.
+--   cells-inside                two cells that draw neither 8 nor 9 are on the plate
+--   later-draws                 of what fits, none of 1 to 7, 20 and 21 is drawn: only what the call asks of its cells
+--   fits-later, later-enters    a call that names no cell is refused exactly where what it was handed does not fit
+--   toggle-enters, swap-enters  an attempt that is not refused: its cells are on the plate, those of a swap unlike
 use mathlib.Core.Bool.{false, not}
 use mathlib.Core.Path.{_≡_, refl, sym, _∙_, subst}
 use mathlib.Core.List.{List, [], _∷_, _++_}

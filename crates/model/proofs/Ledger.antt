@@ -1,5 +1,7 @@
--- Laws of the ledger: an accepted change leaves the figures of the start, is counted once, and moves the dots that the
--- ledger tells by what it adds to the plate.
+-- Laws of the ledger: what an accepted change does to its figures.
+--   raised-start    it leaves those of the start
+--   raised-changes  it is counted once
+--   raised-dots     it moves the dots that the ledger tells by what it adds to the plate
 use mathlib.Core.List.{List, [], _∷_}
 use mathlib.Core.Path.{_≡_, refl}
 use Prim.Native.Nat.{suc, _+_}

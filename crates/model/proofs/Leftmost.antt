@@ -1,4 +1,9 @@
--- The reader's refusal is the leftmost that is drawn, and the leftmost that is drawn is the reader's.
+-- The leftmost refusal of a text (specs/SheetRefusal.antt) is the reader's: what is drawn is not drawn to the left of
+-- the reader's place, and what the reader refuses is drawn there.
+--   never-both           10 and 11 are never drawn at one place
+--   read-draws-nothing   a sheet that is read draws nothing anywhere
+--   refused-is-leftmost  the reader's refusal is the leftmost that is drawn
+--   leftmost-is-refused  the leftmost that is drawn is the reader's
 use mathlib.Core.Path.{_≡_, refl, _∙_, ap, ap₂, sym, subst}
 use mathlib.Core.Bool.{false}
 use mathlib.Core.Logic.{_⊎_, inl, inr, ⊎-elim}

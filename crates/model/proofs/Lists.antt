@@ -1,5 +1,10 @@
 -- Lists of calls: each call, handed what the last one left, answers as the reference does and leaves the reference's
 -- dots with their table and its ledger.
+--   runs-alike    where two kinds of calls answer and leave alike, so do lists of them
+--   call-same     a call beside the reference: refused alike, or both done
+--   call-later    later calls accept what a call leaves
+--   run-same      a list of calls beside the reference, with whatever each accepted change keeps
+--   run-expected  the only refusals in a list are 8, 9 and 22
 use mathlib.Core.Bool.{true, false}
 use mathlib.Core.List.{List, [], _∷_, List·Memᴰ as In, List·Memᴰ·head as here, List·Memᴰ·tail as there}
 use mathlib.Core.Path.{_≡_, refl, sym, _∙_, ap, ap₂, subst}

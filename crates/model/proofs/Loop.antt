@@ -1,5 +1,9 @@
 -- What the loop over the partners of one cell steps by: the attempts that a swap scan has left there from the j-th
--- offset on. An offset is passed over, or its swap is declined, or its swap is accepted, which ends them.
+-- offset on.
+--   left-none      no offset is left
+--   pass-unsuited  the j-th is passed over
+--   pass-declined  its swap is declined
+--   taken          its swap is accepted, which ends them
 use mathlib.Core.Bool.{true, false}
 use mathlib.Core.List.{List, _∷_}
 use mathlib.Core.Path.{_≡_, _∙_, ap}

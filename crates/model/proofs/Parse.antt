@@ -1,4 +1,7 @@
--- The text of values is read: as these values, or with refusal 11 where one is outside its field.
+-- The text of values is read.
+--   text-read     as these values, or with refusal 11 where one is outside its field
+--   outside-read  a value outside its field draws 11, there or before
+--   inside-read   values in their fields are read
 use mathlib.Core.Path.{_≡_, refl, _∙_, ap, sym}
 use mathlib.Core.Bool.{Bool, true, false, true≢false, _&&_}
 use mathlib.Core.Logic.{_⊎_, inl, inr, ⊎-elim, ⊎-map}

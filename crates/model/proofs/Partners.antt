@@ -1,6 +1,8 @@
--- Laws of the partners of a cell. The offsets are those of document 01 in its order (`offsets-ordered`): one computed
--- test of the whole lists. An offset that lands does so on a cell (`lands-on`), and every other cell within reach is a
--- partner (`partners-cover`).
+-- Laws of the partners of a cell: the list of offsets, and where they land.
+--   offsets-ordered  the offsets are those of document 01 in its order: one computed test of the whole lists
+--   entry-within     each is within reach
+--   lands-on         an offset that lands does so on a cell
+--   partners-cover   every other cell within reach is a partner
 use mathlib.Core.Bool.{Bool, true, false, true≢false, not, _&&_, _||_, and-eq-true-iff}
 use mathlib.Core.List.{List, [], _∷_, List·Memᴰ as In, List·Memᴰ·head as here, List·Memᴰ·tail as there}
 use mathlib.Core.Logic.{_⊎_, inl, inr}

@@ -1,5 +1,6 @@
--- The promise of the program (specs/ProgramPromises.antt): texts of refusals are apart from each other and from every
--- sheet; a sheet that was read draws 6 or nothing, and comes to rest; so what is printed is what is due.
+-- The promise of the program (specs/ProgramPromises.antt) holds (`program-promises`): texts of refusals are apart from
+-- each other and from every sheet; a sheet that was read draws 6 or nothing, and comes to rest; so what is printed is
+-- what is due.
 use mathlib.Core.Path.{_≡_, refl, _∙_, ap, ap₂, sym, subst}
 use mathlib.Core.Bool.{Bool, true, false, _&&_}
 use mathlib.Core.List.{List, [], _∷_, _++_}

@@ -1,4 +1,8 @@
--- Laws of what the program prints: how long a sheet is at most, and what its output is by what was read.
+-- Laws of what the program prints.
+--   text-most                    a sheet of at most 4,096 cells is at most 33,034 bytes long
+--   output-long                  more than 32,768 bytes draw 13
+--   output-is                    else the output is the text of what was read
+--   output-refused, output-read  a refusal; or what is made of the sheet at the front of the buffers
 use mathlib.Core.Path.{_≡_, refl, _∙_, ap, ap₂, sym, subst}
 use mathlib.Core.Bool.{Bool, true, false}
 use mathlib.Core.List.{List, [], _∷_, _++_}

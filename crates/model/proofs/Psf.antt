@@ -1,5 +1,9 @@
--- Laws of the psf and of its autocorrelation c: c(d) = c(-d), c is 0 where a coordinate passes 2r, c ≥ 0, and the sum
--- of all c is the square of the psf's sum. No mirror symmetry of the psf is used.
+-- Laws of the psf and of its autocorrelation c. No mirror symmetry of the psf is used.
+--   psf-entry                                     an entry of the psf by its place in the list
+--   autocorrelation-even, autocorrelation-nonneg  c(d) = c(-d), and c ≥ 0
+--   autocorrelation-total, autocorrelation≤       the sum of all c is the square of the psf's sum, so no c is larger
+--   autocorrelations-at                           the list of its values holds c at every offset
+--   autocorrelation-ends                          c is 0 where a coordinate passes 2r
 use mathlib.Core.Path.{_≡_, refl, sym, _∙_, ap, ap₂, subst}
 use mathlib.Core.List.{List, [], _∷_}
 use mathlib.Core.Logic.{_⊎_, inl, inr}

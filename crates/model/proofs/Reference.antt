@@ -1,5 +1,8 @@
--- Laws of the reference's changes: toggles, and swaps of unlike dots, are legal; a plate that fits fits after a legal
--- change; and where one lowers E and is accepted, the state fits again.
+-- Laws of the reference's changes: which are legal, and what fits again after one.
+--   made-long, made-bits          the copy on which a change is made: as many dots, each 0 or 1
+--   halftone-made, fits-halftone  a plate that fits fits after it, and its dots are dots for the target
+--   toggle-legal, swap-legal      toggles, and swaps of unlike dots, are legal
+--   accept-fits                   where a legal change lowers E and is accepted, the state fits again
 use mathlib.Core.Path.{_≡_, refl, sym, _∙_, ap, subst}
 use mathlib.Core.List.{List, [], _∷_}
 use Prim.Native.Nat.{ℕ, zero, suc, _+_, _*_, _-_, _^_, _≤_, _<_}

@@ -1,5 +1,10 @@
--- The laws of the refusals: how the judge of a list is made of judges of its parts, and what a call that draws no
--- refusal was handed (`autocorrelation-fits`, `halftone-fits`, `plate-fits`, `start-plate`).
+-- Laws of the refusals: how the judge of a list is made of judges of its parts, and what a call that draws no refusal
+-- was handed.
+--   first-passes                         what is not drawn is passed over, wherever it stands
+--   by-first, by-either, by-second       a list judged in two parts
+--   autocorrelation-fits, halftone-fits  what the autocorrelation, and what table and E were handed
+--   plate-fits, plate-none               1 to 7 are drawn exactly where the plate does not fit
+--   start-given, start-plate             what a start that is not refused was handed
 use mathlib.Core.Bool.{Bool, true, false, true≢false, not, _||_, _&&_}
 use mathlib.Core.List.{List, [], _∷_, _++_}
 use mathlib.Core.Path.{_≡_, refl, sym, _∙_, ap, ap₂}
@@ -51,7 +56,6 @@ pub none-append : (l k : List Refusal) → None (l ++ k) → None l × None k
 none-append [] k h = (tt, h)
 none-append (n when b ∷ l) k h = let (a, c) = none-append l k (h .1) in ((h .0, a), c)
 
--- the first of two lists, by those of each
 -- what is not drawn is passed over, wherever it stands
 pub first-passes : (l k j : List Refusal) → None k → firstOf (l ++ (k ++ j)) ≡ firstOf (l ++ j)
 first-passes [] [] j d = refl
@@ -60,6 +64,7 @@ first-passes [] (n when false ∷ k) j d = first-passes [] k j (d .1)
 first-passes (n when true ∷ l) k j d = refl
 first-passes (n when false ∷ l) k j d = first-passes l k j d
 
+-- the first of two lists, by those of each
 first-append : (l k : List Refusal) → T (numbered l) → either (firstOf l) (firstOf k) ≡ firstOf (l ++ k)
 first-append [] k t = refl
 first-append (zero when b ∷ l) k t = absurd t

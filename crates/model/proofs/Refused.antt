@@ -1,5 +1,8 @@
--- The reader's refusals: which there are, and 12 where room lacks; what stands before its place begins a sheet; and
--- refusal 10 without the reader: with its place none begins.
+-- The reader's refusals and their places, and what 10 says without the reader.
+--   read-draws                they are 10, 11 and 12
+--   twelve-lacks              12 stands at the start of line 3, where the buffers are too short
+--   read-within, read-begins  the place lies within the input, and what stands before it begins a sheet
+--   ten-stops                 10 stands at the first byte that no sheet could have there, or at an end too early
 use mathlib.Core.Path.{_≡_, refl, _∙_, ap, ap₂, sym, subst}
 use mathlib.Core.Bool.{false}
 use mathlib.Core.Logic.{_⊎_, inl, inr, ⊎-elim}
@@ -23,7 +26,7 @@ use Rattle.model.proofs.Sheet.{by-cases, head-values, head-in-range, no
 use Rattle.model.proofs.Unseen.{parse-local}
 
 -- ---- which refusals there are
--- of the reader: these and 12, which stands at the end of line 2 where the buffers are too short
+-- 10 and 11, and 12, which stands at the end of line 2 where the buffers are too short
 module _ (b : List ℕ) (p g d : ℕ) where
   abbrev Answered : ℕ → Type 0
   Answered n = (n ≡ 0) ⊎ (n ≡ 10) ⊎ (n ≡ 11) ⊎ (n ≡ 12)

@@ -1,6 +1,8 @@
--- Rest: where no toggle and no swap within reach lowers E, the table keeps to the two half-peak bounds, one side under
--- dots and the other under blanks (`rest-if`). So it is where nothing that the scans attempt lowers E (`rest-by`), and
--- where a test that can be computed says so (`rest-tested`).
+-- Rest: no toggle and no swap within reach lowers E, and the table keeps to the two half-peak bounds, one side under
+-- dots and the other under blanks.
+--   rest-if      where no toggle and no swap within reach lowers E: the bounds follow
+--   rest-by      where nothing that the scans attempt lowers E
+--   rest-tested  where a test that can be computed says so
 use mathlib.Core.Bool.{Bool, true, false, true≢false, not, _&&_}
 use mathlib.Core.List.{List, [], _∷_, List·Memᴰ as In, List·Memᴰ·head as here, List·Memᴰ·tail as there}
 use mathlib.Core.Path.{_≡_, sym, _∙_, ap, ap₂, subst}

@@ -1,4 +1,7 @@
--- The text of a grid: it is that of its parts, it is its rows, and how long it is.
+-- The text of a grid: its values one after the other, each with the byte that ends it.
+--   text-grid    it is that of its parts
+--   grid-length  how long it is
+--   rows-grid    it is its rows
 use mathlib.Core.Path.{_≡_, refl, _∙_, ap, sym}
 use mathlib.Core.List.{List, [], _∷_, _++_, append-assoc}
 use Prim.Native.Nat.{ℕ, zero, suc, _+_, _*_, _%_, _≤_, _<_}

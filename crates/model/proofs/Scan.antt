@@ -1,6 +1,9 @@
--- Laws of scans, for every target and every rule: what each accepted change keeps, a scan keeps; it counts its accepted
--- changes, each of which lowers E; and a scan that accepts nothing leaves the reference as it was, nothing that it
--- attempts lowering E.
+-- Laws of scans, for every target and every rule.
+--   toggles-lawful, swaps-lawful  the rules of the two scans attempt legal changes alone
+--   sweep-keeps                   what each accepted change keeps, a scan by such a rule keeps
+--   sweep-counts, sweep-lowers    it counts its accepted changes, each of which lowers E
+--   sweep-still                   one that accepts nothing leaves the reference as it was; nothing attempted lowers E
+--   sound-kept, sweep-later       later calls accept what a scan leaves
 use mathlib.Core.Bool.{true, not, and-eq-true-iff, Bool, false}
 use mathlib.Core.List.{List, [], _∷_}
 use mathlib.Core.Path.{_≡_, refl, _∙_, subst, ap, sym}

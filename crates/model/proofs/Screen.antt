@@ -1,5 +1,7 @@
--- Laws of the dots that a start begins with: a threshold's place in the array; and for the three kinds together, as
--- many dots as cells, each 0 or 1.
+-- Laws of the dots that a start begins with.
+--   thresholds-long, threshold-entry  there are 256 thresholds; a threshold's place in the array
+--   is-blank, is-ordered, is-given    the dots of each kind
+--   start-long, start-bits            of every kind: as many dots as cells, each 0 or 1
 use mathlib.Core.Bool.{Bool, true, false}
 use mathlib.Core.List.{List}
 use mathlib.Core.Path.{_≡_, refl, sym, _∙_, ap₂, subst}

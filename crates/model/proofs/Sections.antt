@@ -1,5 +1,9 @@
 -- Where the numbers of a sheet stand: each in the text of its sheet, and those outside their fields among the values of
 -- the format.
+--   number-in-text              a number of a sheet stands in its text after the text before it
+--   line-outside, outside-line  in line 2: a number outside its field is such a value of the format, and back
+--   outside-body                after line 2: such a value is a number outside its field
+--   in-psf, in-gray, in-dots    and back, section by section
 use mathlib.Core.Path.{_≡_, refl, _∙_, ap, sym}
 use mathlib.Core.Bool.{Bool, true, false}
 use mathlib.Core.Logic.{_⊎_, inl, inr}

@@ -1,5 +1,9 @@
--- Laws of the sheet: it is read exactly when it is a text that fits, no two have the same text, and a written sheet
--- reads back.
+-- Laws of the sheet: its text, reading it and writing it.
+--   text-parts                   the text of a sheet is that of the parts of the format with its values
+--   by-cases                     what holds of each answer that the reader can give holds of the one that it gives
+--   read-exactly, read-back      read exactly when the bytes are its text, each number is in its field, and it fits
+--   same-text                    no two sheets have the same text
+--   written-whole, written-back  a written sheet is its whole text, and reads back
 use mathlib.Core.Path.{_≡_, refl, _∙_, ap, ap₂, sym, subst}
 use mathlib.Core.Bool.{Bool, true, false, true≢false}
 use mathlib.Core.List.{List, [], _∷_, _++_, append-assoc, append-nil}

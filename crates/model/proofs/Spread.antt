@@ -1,4 +1,7 @@
 -- T in two passes: the perceived error, which is the error spread by the psf, is gathered by the psf again.
+--   perceived-spread    the perceived error: the errors moved by each entry of the psf, and weighed by it
+--   filtered-perceived  T(m) = Σₖ p(k) × g(m + k), where g is the perceived error
+--   filtered-gathered   the same, coordinates counted from the edge of the widened plate
 use mathlib.Core.Path.{_≡_, refl, sym, _∙_, ap, ap₂}
 use mathlib.Core.List.{List, [], _∷_}
 use Prim.Native.Nat.{ℕ, _+_, _*_, _/_, _%_, _<_}

@@ -1,5 +1,7 @@
--- What a start answers and leaves, refused or not; and where it is not refused, its ledger and its table are fresh, and
--- no later call refuses them.
+-- What a start answers and leaves.
+--   start-refused, start-done  refused, all as it was; else the dots of its kind, their table and a fresh ledger
+--   start-later                later calls accept what is left
+--   start-begins               the promise of a start
 use mathlib.Core.List.{List}
 use mathlib.Core.Path.{_≡_, refl, sym, _∙_, ap, subst}
 use Prim.Native.Nat.{ℕ}

@@ -1,5 +1,9 @@
--- Laws of the state: the dot total counts the dots; the state that fits, and no other, draws neither 20 nor 21; and a
--- fresh state fits.
+-- Laws of the state: the dot total, and where 20 and 21 are drawn.
+--   dots-counted                       the dot total is the number of dot bytes that are 1
+--   below, at-least, equal, all-below  what the tests of 20 and 21 say
+--   state-accepted, state-known        none of their conditions holds exactly where the state fits
+--   fresh-fits                         dots with their table and a fresh ledger fit
+--   fits-accepted, accepted-fits       so they are drawn exactly where it does not fit
 use mathlib.Core.Bool.{Bool, true, false, not}
 use mathlib.Core.Logic.{ite}
 use mathlib.Core.List.{List, [], _∷_, filter}

@@ -1,5 +1,9 @@
--- Laws of texts: the digits of a number and those of its tenth, the digits read back as the number (257 where it is
--- above 256, whatever its length), that no two numbers have the same digits, and the number that was read as its digits.
+-- Laws of texts: the digits of a number, and the items that a reader yields.
+--   digits-low, digits-more, length-most  the digits: one, or those of the tenth and one more; and how many at most
+--   digits-apart                          no two numbers have the same digits, whatever follows that is no digit
+--   number-low, number-high               a number is yielded for its whole run of digits, as 257 where it is above 256
+--   leading-zero                          in a longer run that begins 0 the second digit cannot be there
+--   yielded-number                        where a number is yielded stands the whole run of its digits
 use mathlib.Core.Path.{_≡_, refl, _∙_, ap, sym}
 use mathlib.Core.Bool.{Bool, true, false, true≢false, _&&_, and-eq-true-iff, and-false}
 use mathlib.Core.Logic.{_⊎_, inl, inr}

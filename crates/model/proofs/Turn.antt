@@ -1,5 +1,7 @@
--- Turning dots, each byte being 0 or 1: what the other byte adds is s(m); a toggle turns one dot, and a swap of unlike
--- dots turns both.
+-- Turning dots, each byte being 0 or 1.
+--   sign-is, unlike-sign      what the other byte adds is s(m), and so is what a dot gets from an unlike one
+--   toggle-sets, toggle-made  a toggle turns one dot
+--   swap-made                 a swap of unlike dots turns both
 use mathlib.Core.Path.{_≡_, refl, sym, _∙_, ap, ap₂}
 use mathlib.Core.Bool.{Bool, true, false}
 use mathlib.Core.List.{List, [], _∷_}

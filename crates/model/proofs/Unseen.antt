@@ -1,5 +1,5 @@
--- What the reader has not seen does not matter: texts with the same bytes up to and with the place where it stops are
--- read alike, unless with refusal 11, which may rest on digits further on.
+-- What the reader has not seen does not matter (`parse-local`): texts with the same bytes up to and with the place
+-- where it stops are read alike, unless with refusal 11, which may rest on digits further on.
 use mathlib.Core.Path.{_≡_, refl, _∙_, ap, sym}
 use mathlib.Core.Bool.{Bool, true, false, _&&_}
 use mathlib.Core.Logic.{_⊎_, inl, inr}

@@ -1,5 +1,9 @@
--- Laws of the window update: the sizes of entries, what one window makes of a table, the table that many of them leave,
--- and that the autocorrelation is a table built so.
+-- Laws of the window update: the sizes of entries, and what windows make of a table.
+--   small-tabulate, table-small, square-small  entries at most k from 0: of a list, of a table, of a square
+--   addWindow-tabulate                         what one window makes of a table
+--   scattered-none, scattered-next             the table that many of them leave, one after the other
+--   gain-kernel                                the window of the cell i gains c(q - i) at q
+--   windows-autocorrelation                    the autocorrelation is a table built so
 use mathlib.Core.Path.{_≡_, refl, sym, _∙_, ap, ap₂, subst}
 use mathlib.Core.Bool.{Bool, true, false}
 use mathlib.Core.List.{List, [], _∷_, _++_, map}

@@ -1,4 +1,7 @@
 -- How an answer is laid out: a call's outcome against what the functions answer and leave.
+--   slice-sized, to-lay             a slice that is taken has the size of a ledger, as laying out an answer requires
+--   slice-refused, slice-taken      a start or a later call, its slice of the ledger refused, or taken
+--   read-unmeasured, read-measured  a sheet, read into a slice that has not five measures, or has
 use mathlib.Core.List.{List, _++_}
 use mathlib.Core.Path.{_≡_, refl, sym, _∙_, ap, subst}
 use Prim.Native.Nat.{ℕ, _+_}

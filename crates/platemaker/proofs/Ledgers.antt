@@ -1,4 +1,8 @@
 -- The ledger that a call answers can be stored: later calls accept it, so its counts are few.
+--   start-storable                            that of a start
+--   toggle-storable, swap-storable            of an attempt
+--   toggle-scan-storable, swap-scan-storable  of a scan
+--   converge-storable                         of a settling
 use mathlib.Core.List.{List}
 use mathlib.Core.Path.{_≡_, refl}
 use Prim.Native.Nat.{ℕ, zero, suc}

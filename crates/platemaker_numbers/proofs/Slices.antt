@@ -1,4 +1,8 @@
 -- Numbers into a slice and out of it, and the judge of a slice that is to hold a ledger.
+--   held-whole                                      a signed number, held as bits, is itself
+--   all-stored, numbers-stored                      as many numbers as there are, put into a slice; those of a ledger
+--   stats-read                                      a ledger read out of a slice
+--   measures-refused, length-refused, none-refused  one of 1 to 4 is drawn; 5 is drawn; none is
 use mathlib.Core.List.{List, [], _∷_, _++_, append-nil}
 use mathlib.Core.Path.{_≡_, refl, _∙_, ap}
 use Prim.Native.Nat.{ℕ, _+_, _<_, _^_}

@@ -1,4 +1,5 @@
--- Laws that several proofs use: a value with a sign, as its local holds it, and the sign of a multiple.
+-- Laws that several proofs use: a value with a sign, as its local holds it (`signed-holds`), and the sign of a multiple
+-- (`multiple-sign`).
 use mathlib.Core.Bool.{true}
 use mathlib.Core.Path.{_≡_, refl, sym, _∙_, ap}
 use Prim.Native.Nat.{ℕ, zero, suc, _*_, _^_, _<_}

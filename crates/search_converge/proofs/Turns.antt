@@ -1,4 +1,9 @@
 -- The turns of a settling: what holds before each, and what its two scans make of it.
+--   Made, made-by               a scan that was made beside the reference
+--   Turning, turning-first      before a turn; before the first
+--   turning-again, again-lower  the toggle scan accepts something: E is lower, and a turn follows
+--   turning-anew, anew-lower    only the swap scan does: the same
+--   turning-end                 neither does: the settling is at its end
 use mathlib.Core.List.{List}
 use mathlib.Core.Path.{_≡_, refl, sym, _∙_, ap, ap₂, subst}
 use Prim.Native.Nat.{ℕ, _+_, _*_, _^_, _≤_, _<_}

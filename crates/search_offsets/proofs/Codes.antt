@@ -1,5 +1,5 @@
--- The codes of the 168 offsets within 6: those within a smaller reach are that reach's offsets, in its order, by one
--- computed test for each reach.
+-- The codes of the 168 offsets within 6 (`codes`): those within a smaller reach are that reach's offsets, in its order
+-- (`holds`), by one computed test for each reach.
 use mathlib.Core.Bool.{Bool, false, _||_}
 use mathlib.Core.List.{List, [], _∷_, map}
 use mathlib.Core.Path.{_≡_, refl, sym, _∙_, ap, ap₂}

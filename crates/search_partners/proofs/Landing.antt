@@ -1,4 +1,7 @@
 -- Where an offset whose coordinates have 6 added leads: rows and columns as naturals.
+--   lands-is, partner-is                      whether it lands, and on which cell
+--   off-top, off-bottom, off-left, off-right  it does not: the number of cells is told
+--   on                                        it does: the cell is told
 use mathlib.Core.Bool.{Bool, true, false, _&&_}
 use mathlib.Core.Path.{_≡_, refl, sym, _∙_, ap, ap₂}
 use mathlib.Core.List.{[], _∷_}

@@ -1,4 +1,4 @@
--- What the offsets are worth, entry by entry.
+-- What the offsets are worth: one more entry (`worths-next`), and that each is small (`worth-small`).
 use mathlib.Core.Path.{_≡_, _∙_}
 use mathlib.Core.List.{List}
 use Prim.Native.Nat.{ℕ, _+_, _*_, _≤_, _<_}

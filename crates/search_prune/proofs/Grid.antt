@@ -1,4 +1,7 @@
 -- What the offsets are worth in rows, entry by entry; and rows in which every trial fails, one after the other.
+--   grid-next, worth-in-small       one more entry; each is small
+--   run-next                        one cell more in a row
+--   rows-none, rows-more, rows-all  no row yet, one row more, all rows within reach
 use mathlib.Core.Bool.{Bool, true, false}
 use mathlib.Core.List.{List}
 use mathlib.Core.Path.{_≡_, _∙_}

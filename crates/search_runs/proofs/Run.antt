@@ -1,4 +1,7 @@
--- A run of cells where nothing is accepted, one cell after the other.
+-- A run of cells where nothing is accepted.
+--   toggles-next  toggles: one cell more
+--   swaps-next    swaps with the cell as far on: one cell more
+--   cells-next    swaps with the partners of each cell: one offset more
 use mathlib.Core.Bool.{Bool, true, false, _&&_}
 use mathlib.Core.List.{List}
 use mathlib.Core.Logic.{_⊎_, inl, inr}

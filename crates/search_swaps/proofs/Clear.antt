@@ -1,4 +1,7 @@
--- Rows in which every trial fails hold no partner that lowers E: what the quick test shows of the trials of a cell.
+-- What the quick tests show of the trials: where every one fails, no partner lowers E.
+--   offset-near  the offsets that the code holds are within reach
+--   none-lowers  of one cell, in the rows around it
+--   run-still    of a run of cells: nothing is accepted at any of them
 use mathlib.Core.Bool.{Bool, true, false, _&&_}
 use mathlib.Core.List.{List, [], _∷_}
 use mathlib.Core.Path.{_≡_, refl, sym, _∙_, subst}

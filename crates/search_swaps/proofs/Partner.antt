@@ -1,5 +1,8 @@
--- The partner of the cell at (row, col) at an offset whose coordinates have 6 added: where it stands, and that the test
--- of a trial, by the table and by what the offset is worth, is whether the swap with it lowers E.
+-- The partner of the cell at (row, col) at an offset whose coordinates have 6 added.
+--   landed, stands                  it lands on a row and in a column of the plate, and where it stands
+--   partner-there, partner-missing  what the code is told: the cell, or the number of cells
+--   suits-lands, suits-unlike       where it suits: it lands, and its dot is unlike
+--   trial-is                        the test by the table and by what the offset is worth is whether the swap lowers E
 use mathlib.Core.Bool.{Bool, true, false, _&&_, not, and-eq-true-iff}
 use mathlib.Core.List.{List, [], _∷_}
 use mathlib.Core.Path.{_≡_, refl, sym, _∙_, ap, ap₂, subst}

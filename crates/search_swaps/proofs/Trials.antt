@@ -1,5 +1,7 @@
--- The trials of a swap scan at one cell, with the offsets as the code holds them: a partner that does not suit or does
--- not lower E is passed over, and the first that does both ends them.
+-- The trials of a swap scan at one cell, with the offsets as the code holds them.
+--   test-passed  the partner suits, and the swap with it lowers E
+--   test-failed  it does not both suit and lower E, and is passed over
+--   all-failed   where every one failed, none is left to try
 use mathlib.Core.Bool.{Bool, true, false, _&&_, and-eq-true-iff}
 use mathlib.Core.List.{List}
 use mathlib.Core.Path.{_≡_, refl, sym, _∙_, ap, subst}

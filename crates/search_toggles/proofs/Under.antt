@@ -1,5 +1,10 @@
--- What holds while a scan is under way, by whatever rule: its first n cells done, the dots, the table and the result so
--- far are those of the reference.
+-- What holds while a scan is under way, by whatever rule (`Under`): its first n cells done, the dots, the table and the
+-- result so far are those of the reference.
+--   under-start            it starts from what a later call is handed
+--   under-fits, under-few  later calls accept what is there, and its accepted changes are few
+--   under-next             one cell more
+--   under-end              every cell done
+--   under-skip             k cells more, where nothing is accepted at any of them
 use mathlib.Core.List.{List}
 use mathlib.Core.Path.{_≡_, refl, sym, _∙_, ap, subst}
 use Prim.Native.Nat.{ℕ, zero, suc, _+_, _*_, _^_, _≤_, _<_}

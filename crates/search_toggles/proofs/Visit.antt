@@ -1,4 +1,7 @@
--- What a scan makes of one cell of a judged plate: nothing is accepted and all stays, or one change is accepted.
+-- What a scan makes of one cell of a judged plate.
+--   visit-none, visit-one             nothing is accepted and all stays, or one change is accepted
+--   toggle-declined, toggle-accepted  a toggle scan
+--   swaps-over, swap-accepted         a swap scan, from the j-th offset on
 use mathlib.Core.Bool.{true, false}
 use mathlib.Core.List.{List, []}
 use mathlib.Core.Path.{_≡_, refl, sym, _∙_, ap, subst, ap₂}

@@ -1,5 +1,9 @@
--- What the attempts have in common once they are judged: the formulas over the table and the kernel are the changes of
--- the reference, and turning a dot leaves the table of the dots turned.
+-- What the attempts have in common once they are judged.
+--   flipped-fits, table-small, at-small  a plate fits with a dot turned; the numbers of table and kernel are small
+--   toggle-is                            the formula over the table and the kernel is the change of a toggle
+--   flip-ready, flip-is                  what turning a dot asks for, and that it leaves the table of the dots turned
+--   swap-is                              the formula is the change of a swap of unlike dots
+--   error-small                          E now is small enough to add a change to
 use mathlib.Core.Path.{_≡_, refl, sym, _∙_, ap, ap₂, subst}
 use mathlib.Core.List.{List, [], _∷_}
 use Prim.Native.Nat.{ℕ, _+_, _*_, _≤_, _<_}

@@ -1,4 +1,9 @@
--- What is put for each answer: of the sheet and its figures, of a settling, of a start.
+-- What is put for each answer.
+--   Put, run-put                a text at the front of the output, and so what the program answers and leaves
+--   sheet-most                  a sheet is at most 33,034 bytes long
+--   result-put                  the sheet, then the figures
+--   converged-put, started-put  of what settling, and of what the start answered and left
+--   read-refused, read-done     of what reading answered and left
 use mathlib.Core.List.{List}
 use mathlib.Core.Path.{_≡_, sym, _∙_, ap, ap₂}
 use Prim.Native.Nat.{ℕ, _+_, _≤_}

@@ -1,4 +1,7 @@
--- How long the lines are, and how long a number is at most.
+-- How long a number is at most, and how long the lines are.
+--   digits-most     a number of 64 bits has at most 20 digits
+--   refused-length  the line of a refusal
+--   figures-length  the two lines of the ledger
 use mathlib.Core.Path.{_≡_}
 use Prim.Native.Nat.{ℕ, _+_, _^_, _≤_, _<_}
 use native.Mathlib.Nat.{lt-trans}

@@ -1,4 +1,8 @@
 -- The outcomes of reading and of writing a sheet, one law for each.
+--   head-refused, in-range                  lines 1 and 2 are refused; else their measures are in their fields
+--   no-room                                 12: the buffers are too short
+--   body-refused, read-done                 what follows line 2 is refused, or the sheet is read
+--   write-refused, write-short, write-done  1 to 5 and 7; 12; the sheet is written
 use mathlib.Core.Bool.{true, false}
 use mathlib.Core.List.{List}
 use mathlib.Core.Path.{_≡_, refl, ap, sym}

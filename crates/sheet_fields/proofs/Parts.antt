@@ -1,5 +1,9 @@
--- What the proofs of the fields share: parts after what was read, fixed bytes as a loop takes them, words and line ends
--- as items, a number by the tests, and rows as a loop takes them.
+-- What the proofs of the fields share.
+--   next-on, next-off, next-append                  parts after what was read
+--   fixed-more, fixed-stop, fixed-past              fixed bytes as a loop takes them
+--   name-off, name-ended, line-end                  words and line ends as items
+--   field-low, field-high, field-ended, field-open  a number, by the tests
+--   grid-more, grid-stop, grid-past                 rows as a loop takes them
 use mathlib.Core.Bool.{Bool, true, false, _&&_}
 use mathlib.Core.List.{List, [], _∷_, _++_}
 use mathlib.Core.Logic.{⊎-elim}

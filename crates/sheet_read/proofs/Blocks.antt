@@ -1,5 +1,8 @@
--- What follows line 2: how many numbers there are, the blocks by their names, judged one after the other, and what the
--- blocks of a sheet that was judged good hold.
+-- What follows line 2.
+--   psf-short, gray-short, dots-room, all-room  whether there is room, by the tests
+--   psf-block, gray-block, dots-block, no-dots  the blocks by their names
+--   body-end                                    they are judged one after the other
+--   judged                                      what the blocks of a sheet that was judged good hold
 use mathlib.Core.Bool.{Bool, true, false}
 use mathlib.Core.List.{List, [], _++_}
 use mathlib.Core.Path.{_≡_, refl, sym, _∙_, ap}

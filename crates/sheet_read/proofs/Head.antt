@@ -1,5 +1,5 @@
--- Lines 1 and 2, word by word and number by number: five names are line 1, and five fields, each 0 once one was
--- refused, are the measures that the format reads.
+-- Lines 1 and 2, word by word and number by number: five names are line 1 (`five-names`), and five fields, each 0 once
+-- one was refused, are the measures that the format reads (`five-fields`).
 use mathlib.Core.Bool.{Bool, true, false, _&&_}
 use mathlib.Core.List.{List, [], _∷_, _++_}
 use mathlib.Core.Path.{_≡_, refl, sym, _∙_, ap}

@@ -1,5 +1,8 @@
--- How putting goes on, byte by byte, value by value and part by part; and the text of a sheet with start 2 as the parts
--- that are put, with its length.
+-- How putting goes on; and the text of a sheet with start 2 as the parts that are put.
+--   bytes-next, part-next, field-next  after one byte, after a part, after a number and its end
+--   length-next, grid-next             after a value of a grid
+--   head-length, block-length          how long lines 1 and 2 are, and a name with its rows
+--   sheet-parts, sheet-length          the whole sheet, and how long it is
 use mathlib.Core.List.{List, [], _∷_, _++_, append-assoc}
 use mathlib.Core.Path.{_≡_, _∙_, ap, sym}
 use Prim.Native.Nat.{ℕ, suc, _+_, _*_, _≤_, _<_}

@@ -1,4 +1,7 @@
--- Bytes put in two parts, a number put in two parts, and how many digits the numbers below 1,000 have.
+-- How a number is put, and how many digits it has.
+--   sets-append               bytes put in two parts
+--   last-digit                the last digit, after the higher ones were put
+--   two-digits, three-digits  of the numbers from 10 to 999
 use mathlib.Core.List.{List, [], _∷_, _++_}
 use mathlib.Core.Path.{_≡_, _∙_, ap, sym}
 use Prim.Native.Nat.{ℕ, suc, _+_, _/_, _%_, _≤_, _<_}

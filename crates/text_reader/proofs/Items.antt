@@ -1,5 +1,9 @@
--- How the definitions of a text go on by one byte, from `drop i s` to `drop (i + 1) s`, and the item at a place by its
--- first byte.
+-- How the definitions of a text go on by one byte, from `drop i s` to `drop (i + 1) s`, and the item at a place.
+--   word-more, word-stop                    a run of letters
+--   run-more, run-stop                      a run of digits
+--   item-word, item-number, item-other      the item by its first byte
+--   number-long, number-zero, number-first  a run is a number, save where it begins 0 and goes on
+--   word-past, run-past                     past the end
 use mathlib.Core.Bool.{true, false}
 use mathlib.Core.List.{List}
 use mathlib.Core.Path.{_≡_}
