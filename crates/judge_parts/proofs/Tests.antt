@@ -18,8 +18,7 @@ use mir.Syntax.{w64}
 use mir.Val.{Fits}
 use Rattle.algebra.proofs.Machine.{factors-fit}
 use Rattle.model.specs.Psf.{total}
-use Rattle.model.specs.declared.Measures.{Measures}
-use Rattle.model.specs.Refusal.{Refusal, firstOf, differs, above, badSize, badRadius, badReach, badKind, badLength}
+use Rattle.model.specs.Refusal.{Refusal, firstOf, differs, above, badSize, badRadius, badLength}
 use Rattle.model.proofs.Refusal.{numbered, none, neither, size-inside}
 
 module _ (l : List ℕ) (i : ℕ) (h : i < length l) where
@@ -45,10 +44,6 @@ sized w h r k t e z =
     let (size, (radius, _)) = none (badSize w h ∷ badRadius r ∷ k) t e z in
     let (wide, high) = size-inside w h size in
     (factors-fit 256 256 (high .1) (wide .1) tt, ltb-false 3 r radius)
-
--- 1 to 4
-abbrev pub measured : Measures → List Refusal
-measured m = badSize (m .width) (m .height) ∷ badRadius (m .radius) ∷ badReach (m .reach) ∷ badKind (m .start) ∷ []
 
 -- where 5 is not drawn, the psf is no longer than its sum takes
 pub psf-most : (r : ℕ) (psf : List ℕ) (cells : ℕ) (lengths : List ℕ) {x : ℕ} → r ≤ 3

@@ -6,7 +6,7 @@ ghost use Prim.Native.Nat.{_≤_};
 ghost use lib.ListN.{length};
 ghost use Rattle.model.specs.Psf.{total};
 ghost use Rattle.model.specs.Refusal.{firstOf, either, above, badSize, badRadius, badReach, badKind, badLength, badSum};
-ghost use Rattle.model.specs.Refusal.{badDot, badGiven};
+ghost use Rattle.model.specs.Refusal.{badDot, badGiven, badMeasures};
 use model::Measures;
 
 // the sum of bytes, at most as many as the cells of the largest plate
@@ -84,8 +84,7 @@ fn judge_options(reach: usize, kind: usize) -> u32
 
 // 1 to 4
 pub fn judge_all_measures(m: Measures) -> u32
-    ensures { λ r. ⌜ r ≡ firstOf
-        (badSize (m .width) (m .height) ∷ badRadius (m .radius) ∷ badReach (m .reach) ∷ badKind (m .start) ∷ []) ⌝ }
+    ensures { λ r. ⌜ r ≡ firstOf (badMeasures m) ⌝ }
 {
     let size = judge_measures(m.width, m.height, m.radius);
     let options = judge_options(m.reach, m.start);

@@ -15,7 +15,7 @@ use lib.ListN.{length, drop}
 use Rattle.model.specs.declared.Measures.{Measures}
 use Rattle.model.specs.declared.Stats.{Stats}
 use Rattle.model.specs.Error.{Target, targetFor, cellAt, filteredErrors}
-use Rattle.model.specs.Refusal.{Refusal, _when_, firstOf, startRefusals, startRefusal}
+use Rattle.model.specs.Refusal.{Refusal, _when_, firstOf, startRefusals, startRefusal, badMeasures}
 use Rattle.model.specs.State.{Asked, noCell, toggleAsked, swapAsked, laterRefusals}
 use Rattle.model.specs.State.{laterRefusal, toggleRefusal, swapRefusal}
 use Rattle.model.specs.Reference.{Reference, reference, Tried, accepted, declined, attempt}
@@ -23,7 +23,7 @@ use Rattle.model.specs.Calls.{Reply, result, refused, Outcome, unless, B
 use Rattle.model.specs.Calls.{toggleCall, swapCall, toggleScanCall, swapScanCall, convergeCall}
 use Rattle.model.specs.Lists.{Call, toggleAt, swapAt, toggleScan, swapScan, convergence}
 use Rattle.model.specs.Lists.{Result, tried, swept, rested, Held, latest, outcome, handOn, call, callNext, run}
-use Rattle.model.specs.Interface.{statsSize, numbers, statsIn, badMeasures, sliceRefusal, overStats}
+use Rattle.model.specs.Interface.{statsSize, numbers, statsIn, sliceRefusal, overStats}
 use Rattle.model.specs.Interface.{startOver, toggleOver, swapOver, Told}
 use Rattle.model.specs.Interface.{Slices, slicesOf, heldIn, statsAfter, leave, callOver, runOver}
 use Rattle.model.specs.Change.{Move, toggle, swap}

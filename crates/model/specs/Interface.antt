@@ -13,7 +13,7 @@ use Rattle.model.specs.declared.Measures.{Measures}
 use Rattle.model.specs.declared.Stats.{Stats}
 use Rattle.model.specs.declared.ScanResult.{ScanResult}
 use Rattle.model.specs.declared.ConvergeResult.{ConvergeResult}
-use Rattle.model.specs.Refusal.{Refusal, _when_, firstOf, badSize, badRadius, badReach, badKind}
+use Rattle.model.specs.Refusal.{Refusal, _when_, firstOf, badMeasures}
 use Rattle.model.specs.Reference.{Tried, accepted, declined}
 use Rattle.model.specs.Calls.{Reply, result, refused, Outcome, unless, Buffers}
 use Rattle.model.specs.Calls.{startCall, toggleCall, swapCall, toggleScanCall, swapScanCall, convergeCall}
@@ -67,10 +67,6 @@ statsIn l =
             swaps = countOf (getD l 5 (pos 0));
           };
     }
-
--- 1 to 4
-abbrev pub badMeasures : Measures → List Refusal
-badMeasures m = badSize (m .width) (m .height) ∷ badRadius (m .radius) ∷ badReach (m .reach) ∷ badKind (m .start) ∷ []
 
 -- 5 where there are not so many, in its place: after 1 to 4
 abbrev pub badStatsLength : List ℤ → List Refusal
@@ -174,10 +170,6 @@ module _ (m : Measures) (psf gray : List ℕ) where
 abbrev pub offsetAfter : {A : Type 0} → ℕ → Reply A → ℕ
 offsetAfter at (result a) = at
 offsetAfter at (refused n o) = o
-
--- measures in a slice of five numbers
-abbrev pub measureNumbers : Measures → List ℕ
-measureNumbers m = m .width ∷ m .height ∷ m .radius ∷ m .reach ∷ m .start ∷ []
 
 -- reading into a slice of measures: 5 where there are not five, before all else
 unfoldable pub readOver : (bytes psf gray dots measures : List ℕ) → Outcome Measures SheetBuffers

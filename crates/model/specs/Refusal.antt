@@ -111,16 +111,14 @@ halftoneRefusals width height radius psf gray dots others =
     ∷ badDot dots
     ∷ []
 
--- 1 to 6, of the calls that are handed all five measures, with the lengths of gray, dots and table
+-- 1 to 4, of the calls that are handed all five measures
+abbrev pub badMeasures : Measures → List Refusal
+badMeasures m = badSize (m .width) (m .height) ∷ badRadius (m .radius) ∷ badReach (m .reach) ∷ badKind (m .start) ∷ []
+
+-- 1 to 6, with the lengths of gray, dots and table
 abbrev pub handed : Measures → List ℕ → List ℕ → List Refusal
 handed m psf lengths =
-    badSize (m .width) (m .height)
-    ∷ badRadius (m .radius)
-    ∷ badReach (m .reach)
-    ∷ badKind (m .start)
-    ∷ badLength (m .radius) psf (m .height * m .width) lengths
-    ∷ badSum psf
-    ∷ []
+    badMeasures m ++ (badLength (m .radius) psf (m .height * m .width) lengths ∷ badSum psf ∷ [])
 
 -- a start, handed a table of that length
 abbrev pub startRefusals : Measures → (psf gray dots : List ℕ) (table : ℕ) → List Refusal
@@ -135,13 +133,8 @@ inputRefusals m psf gray dots table =
 -- the writer of a sheet: 1 to 5 and 7
 abbrev pub writeRefusals : Measures → (psf gray dots : List ℕ) → List Refusal
 writeRefusals m psf gray dots =
-    badSize (m .width) (m .height)
-    ∷ badRadius (m .radius)
-    ∷ badReach (m .reach)
-    ∷ badKind (m .start)
-    ∷ badLength (m .radius) psf (m .height * m .width) (length gray ∷ length dots ∷ [])
-    ∷ badDot dots
-    ∷ []
+    badMeasures m
+    ++ (badLength (m .radius) psf (m .height * m .width) (length gray ∷ length dots ∷ []) ∷ badDot dots ∷ [])
 
 -- and the number that it draws
 unfoldable pub autocorrelationRefusal : (radius : ℕ) (psf : List ℕ) (out : ℕ) → ℕ

@@ -1,5 +1,5 @@
--- The state that calls hand on: the dots, the table and the ledger (`Stats`). A fresh ledger, document 01's refusals
--- because of the state, 20 to 22, and the whole lists of the later calls, those that are handed a table and a ledger.
+-- Document 01's refusals because of the state, 20 to 22, and the whole lists of the later calls, those that are handed a
+-- table and a ledger (`Stats`).
 use mathlib.Core.List.{List, [], _∷_, _++_}
 use mathlib.Core.Path.{_≡_}
 use Prim.Native.Nat.{ℕ, _^_, _≤_}

@@ -12,9 +12,11 @@ use lib.ListN.{length}
 use Rattle.model.specs.declared.Measures.{Measures}
 use Rattle.model.specs.Calls.{Reply, Outcome, Buffers}
 use Rattle.model.specs.Interface.{status, after, statsSize}
-use Rattle.model.specs.Interface.{badMeasures, badStatsLength, sliceRefusal, overStats}
-use Rattle.model.specs.Interface.{offsetAfter, measureNumbers, readOver}
+use Rattle.model.specs.Interface.{badStatsLength, sliceRefusal, overStats}
+use Rattle.model.specs.Interface.{offsetAfter, readOver}
+use Rattle.model.specs.Sheet.{valuesOf}
 use Rattle.model.specs.SheetCalls.{readCall}
+use Rattle.model.specs.Refusal.{badMeasures}
 use Rattle.platemaker_numbers.specs.Storable.{Holds}
 use Rattle.model.proofs.Refusal.{none}
 use Rattle.model.proofs.Calls.{is-refused, is-done}
@@ -82,7 +84,7 @@ module _ (bytes psf gray dots measures : List ℕ) (offset : ℕ) where
       × (p ≡ o .left .psf)
       × (g ≡ o .left .gray)
       × (d ≡ o .left .dots)
-      × (s ≡ after measureNumbers measures (o .reply))
+      × (s ≡ after valuesOf measures (o .reply))
       × (at ≡ offsetAfter offset (o .reply))
 
   pub read-unmeasured : (length measures ≡ 5 → ⊥) → ReadInto 5 psf gray dots measures 0
@@ -92,7 +94,7 @@ module _ (bytes psf gray dots measures : List ℕ) (offset : ℕ) where
   pub read-measured : length measures ≡ 5 → {reply : Reply Measures} {r : ℕ} {p g d s : List ℕ} {at : ℕ}
       → (let o = readCall bytes psf gray dots in
       (reply ≡ o .reply) × ((p ≡ o .left .psf) × ((g ≡ o .left .gray) × (d ≡ o .left .dots))))
-      → (r ≡ status reply) × (s ≡ after measureNumbers measures reply) × (at ≡ offsetAfter offset reply)
+      → (r ≡ status reply) × (s ≡ after valuesOf measures reply) × (at ≡ offsetAfter offset reply)
       → ReadInto r p g d s at
   unfolding readOver
   read-measured e (k, (ep, (eg, ed))) (er, es, ea) =
@@ -101,6 +103,6 @@ module _ (bytes psf gray dots measures : List ℕ) (offset : ℕ) where
         ep,
         eg,
         ed,
-        es ∙ ap (after measureNumbers measures) k,
+        es ∙ ap (after valuesOf measures) k,
         ea ∙ ap (offsetAfter offset) k,
       )

@@ -7,7 +7,8 @@ ghost use Rattle.model.specs.Calls.{autocorrelationCall, filteredErrorCall, squ
 ghost use Rattle.model.specs.Interface.{status, after, numbers};
 ghost use Rattle.model.specs.Interface.{startOver, toggleOver, swapOver, toggleScanOver, swapScanOver, convergeOver};
 ghost use Rattle.model.specs.Interface.{changeOf, triedNumbers, scanNumbers, convergeNumbers};
-ghost use Rattle.model.specs.Interface.{offsetAfter, measureNumbers, readOver};
+ghost use Rattle.model.specs.Interface.{offsetAfter, readOver};
+ghost use Rattle.model.specs.Sheet.{valuesOf};
 ghost use Rattle.model.specs.SheetCalls.{writeCall};
 use model::Measures;
 use platemaker_answers::lay_filled;
@@ -344,7 +345,7 @@ pub extern "C" fn pm_read_sheet(
         × (now (psf .exit) ≡ o .left .psf)
         × (now (gray .exit) ≡ o .left .gray)
         × (now (dots .exit) ≡ o .left .dots)
-        × (now (measures .exit) ≡ after measureNumbers (now (measures .entry)) (o .reply))
+        × (now (measures .exit) ≡ after valuesOf (now (measures .entry)) (o .reply))
         × (now (offset .exit) ≡ offsetAfter (now (offset .entry)) (o .reply))) ⌝ }
 {
     if measures.len() != 5 {

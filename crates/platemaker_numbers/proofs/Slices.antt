@@ -17,9 +17,9 @@ use mir.Syntax.{w64}
 use mir.Val.{toZ, ofZ, hbits}
 use Rattle.model.specs.declared.Measures.{Measures}
 use Rattle.model.specs.declared.Stats.{Stats}
-use Rattle.model.specs.Refusal.{firstOf}
+use Rattle.model.specs.Refusal.{firstOf, badMeasures}
 use Rattle.model.specs.Interface.{statsSize, numbers, countOf, statsIn}
-use Rattle.model.specs.Interface.{badMeasures, badStatsLength, sliceRefusal}
+use Rattle.model.specs.Interface.{badStatsLength, sliceRefusal}
 use Rattle.model.proofs.Refusal.{by-first, by-second}
 
 -- ---- numbers into a slice

@@ -1,7 +1,8 @@
 // Ledgers and measures in slices of numbers, for the C interface.
 ghost use mathlib.Core.Path.{_≡_};
 ghost use lib.ListN.{length};
-ghost use Rattle.model.specs.Interface.{statsSize, numbers, countOf, statsIn, sliceRefusal, measureNumbers};
+ghost use Rattle.model.specs.Interface.{statsSize, numbers, countOf, statsIn, sliceRefusal};
+ghost use Rattle.model.specs.Sheet.{valuesOf};
 ghost use Rattle.platemaker_numbers.specs.Storable.{Storable};
 use judge_parts::judge_all_measures;
 use model::Figures;
@@ -58,7 +59,7 @@ pub fn store_stats(out: &mut [i64], stats: Stats)
 // measures into five numbers
 pub fn store_measures(out: &mut [usize], measures: Measures)
     requires { ⌜ length (now out) ≡ 5 ⌝ }
-    ensures { λ _. ⌜ now (out .exit) ≡ measureNumbers measures ⌝ }
+    ensures { λ _. ⌜ now (out .exit) ≡ valuesOf measures ⌝ }
 {
     out[0] = measures.width;
     out[1] = measures.height;

@@ -5,9 +5,9 @@ use borrow.Author.Needs.{needs}
 use mir.Syntax.{w64}
 use mir.Val.{Fits}
 use Rattle.model.specs.declared.Measures.{Measures}
-use Rattle.model.specs.Refusal.{Refusal, badReach, badKind, badLength, badSum}
+use Rattle.model.specs.Refusal.{Refusal, badReach, badKind, badLength, badSum, badMeasures}
 use Rattle.model.proofs.Refusal.{by-first, by-second}
-use Rattle.judge_parts.proofs.Tests.{sized, measured}
+use Rattle.judge_parts.proofs.Tests.{sized}
 use Rattle.judge_input.proofs.judge_handed.Statement.{statement}
 use Rattle.judge_input.proofs.judge_handed.Tie as tie
 
@@ -28,7 +28,7 @@ judge-all-measures-requires c κs = search needs
 returns : tie.Need-returns
 returns c =
     let s = c .before .before .before in
-    by-first (measured (m s)) (slices s) tt (c .before .judge-all-measures .ensures) (c .if1 .taken)
+    by-first (badMeasures (m s)) (slices s) tt (c .before .judge-all-measures .ensures) (c .if1 .taken)
 
 -- 1 to 4 are not drawn
 fits : (c : tie.Else1) → let m = m (c .before .before .before) in Fits w64 (m .height * m .width) × (m .radius ≤ 3)
@@ -47,7 +47,7 @@ returns-2 : tie.Need-returns-2
 returns-2 c =
     let left = c .before .before in
     let s = left .before .before .before in
-    by-second (measured (m s)) (slices s) tt (left .before .judge-all-measures .ensures) (left .if1 .left)
+    by-second (badMeasures (m s)) (slices s) tt (left .before .judge-all-measures .ensures) (left .if1 .left)
     (c .judge-slices .ensures)
 
 pub judge-handed-spec : {M : Type 1} → statement M

@@ -9,9 +9,9 @@ use lib.ListN.{length}
 use mir.Syntax.{w64}
 use mir.Val.{Fits}
 use Rattle.model.specs.declared.Measures.{Measures}
-use Rattle.model.specs.Refusal.{Refusal, badReach, badKind, badLength, badDot, writeRefusal}
+use Rattle.model.specs.Refusal.{Refusal, badReach, badKind, badLength, badDot, writeRefusal, badMeasures}
 use Rattle.model.proofs.Refusal.{by-first, by-either, by-second}
-use Rattle.judge_parts.proofs.Tests.{sized, measured}
+use Rattle.judge_parts.proofs.Tests.{sized}
 use Rattle.judge_input.proofs.judge_sheet.Statement.{statement}
 use Rattle.judge_input.proofs.judge_sheet.Tie as tie
 
@@ -35,7 +35,7 @@ returns : tie.Need-returns
 unfolding writeRefusal
 returns c =
     let s = c .before .before .before .before .before in
-    by-first (measured (m s)) (exact s ++ bytes s) tt (c .before .judge-all-measures .ensures) (c .if1 .taken)
+    by-first (badMeasures (m s)) (exact s ++ bytes s) tt (c .before .judge-all-measures .ensures) (c .if1 .taken)
 
 -- 1 to 4 are not drawn
 fits : (c : tie.Else1)
@@ -63,7 +63,7 @@ returns-2 c =
     let lengths = c .before .before in
     let left = lengths .before .before in
     let s = left .before .before .before .before .before in
-    by-second (measured (m s)) (exact s ++ bytes s) tt (left .before .judge-all-measures .ensures) (left .if1 .left)
+    by-second (badMeasures (m s)) (exact s ++ bytes s) tt (left .before .judge-all-measures .ensures) (left .if1 .left)
     (by-either (exact s) (bytes s) tt (lengths .judge-lengths .ensures ∙ simp or-self-left)
     (c .before .judge-dots .ensures) (c .first .ensures))
 

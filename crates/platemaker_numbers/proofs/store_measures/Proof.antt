@@ -2,7 +2,7 @@
 use native.Mathlib.Omega.{arith}
 use borrow.Author.Needs.{needs}
 use lib.ListN.{length-set}
-use Rattle.model.specs.Interface.{measureNumbers}
+use Rattle.model.specs.Sheet.{valuesOf}
 use Rattle.platemaker_numbers.proofs.Slices.{all-stored}
 use Rattle.platemaker_numbers.proofs.store_measures.Statement.{statement}
 use Rattle.platemaker_numbers.proofs.store_measures.Tie as tie
@@ -26,7 +26,7 @@ same-length : tie.Need-same-length
 same-length c = search needs
 
 returns : tie.Need-returns
-returns c = all-stored (measureNumbers (c .args .measures)) (c .args .out .now) (c .pre)
+returns c = all-stored (valuesOf (c .args .measures)) (c .args .out .now) (c .pre)
 
 pub store-measures-spec : {M : Type 1} → statement M
 store-measures-spec =
