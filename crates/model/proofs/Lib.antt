@@ -1,27 +1,36 @@
--- The laws of the definitions, a file for each, and the promises that rest on them.
+-- The laws of the definitions, in the same order, and last the promises that rest on them.
 pub mod Basic
+-- Plate, spread and peak
 pub mod Psf
+-- Table and squared error
 pub mod Error
 pub mod Spread
 pub mod Window
-pub mod Screen
-pub mod Refusal
-pub mod Turn
-pub mod Partners
-pub mod Change
 pub mod Halftone
+-- One change
 pub mod Ledger
-pub mod State
-pub mod Later
-pub mod Calls
+pub mod Turn
+pub mod Change
+-- Starts
+pub mod Screen
 pub mod Start
-pub mod Reference
-pub mod Attempts
+-- Scans and settling
+pub mod Partners
 pub mod Scan
 pub mod Loop
 pub mod Rest
 pub mod Converge
+-- Refused because of the input, and because of the state
+pub mod Refusal
+pub mod State
+pub mod Later
+-- Lists of calls: the plain plate, the calls, and lists of them
+pub mod Reference
+pub mod Calls
+pub mod Attempts
 pub mod Lists
+pub mod Demand3
+-- Sheet and program
 pub mod Text
 pub mod Rows
 pub mod Format
@@ -33,8 +42,10 @@ pub mod Sections
 pub mod Refused
 pub mod Leftmost
 pub mod Program
-pub mod Demand3
 pub mod Printed
+-- the C interface
 pub mod Interface
+-- Examples
 pub mod Examples
+-- what is promised
 pub mod Main
