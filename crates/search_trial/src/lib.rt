@@ -9,7 +9,7 @@ ghost use Rattle.model.specs.Error.{targetFor, cellAt, filteredErrors};
 ghost use Rattle.model.specs.Refusal.{HalftoneFits};
 ghost use Rattle.model.specs.State.{LaterFits};
 ghost use Rattle.model.specs.Reference.{reference, statsOf};
-ghost use Rattle.model.specs.Reference as Reference;
+ghost use Rattle.model.specs.Change as Change;
 ghost use Rattle.model.specs.Calls.{result, attempted, toggled, swapped, afterToggle, afterSwap};
 ghost use Rattle.model.specs.Change.{change};
 use model::Attempt;
@@ -40,7 +40,7 @@ pub fn weigh_toggle(
     requires { ⌜ HoldsKernel (measures .radius) (now psf) (now c) ⌝ }
     requires { ⌜ m < measures .height * measures .width ⌝ }
     ensures { λ r. ⌜ r ≡ change (targetFor measures (now (psf .entry)) (now (gray .entry))) (now (dots .entry))
-        (Reference.toggle (now (dots .entry)) m) ⌝ }
+        (Change.toggle (now (dots .entry)) m) ⌝ }
     ensures { λ r. ⌜ natAbs r ≤ 2 ^ 50 ⌝ }
 {
     toggle_change(peak(measures.radius, c), dots, table, m)
@@ -68,7 +68,7 @@ pub fn weigh_swap(
     requires { ⌜ (getD (now dots) (cellAt (measures .width) row col) 0
         ≡ getD (now dots) (cellAt (measures .width) row2 col2) 0 → ⊥) ⌝ }
     ensures { λ r. ⌜ r ≡ change (targetFor measures (now (psf .entry)) (now (gray .entry))) (now (dots .entry))
-        (Reference.swap (now (dots .entry)) (cellAt (measures .width) row col) (cellAt (measures .width) row2 col2)) ⌝ }
+        (Change.swap (now (dots .entry)) (cellAt (measures .width) row col) (cellAt (measures .width) row2 col2)) ⌝ }
     ensures { λ r. ⌜ natAbs r ≤ 2 ^ 50 ⌝ }
 {
     let m = row * measures.width + col;
@@ -94,7 +94,7 @@ pub fn make_toggle(
     requires { ⌜ HoldsKernel (measures .radius) (now psf) (now c) ⌝ }
     requires { ⌜ (row < measures .height) × (col < measures .width) ⌝ }
     requires { ⌜ delta ≡ change (targetFor measures (now psf) (now gray)) (now dots)
-        (Reference.toggle (now dots) (cellAt (measures .width) row col)) ⌝ }
+        (Change.toggle (now dots) (cellAt (measures .width) row col)) ⌝ }
     requires { ⌜ natAbs delta ≤ 2 ^ 50 ⌝ }
     ensures { λ r. ⌜ r ≡ statsOf (targetFor measures (now (psf .entry)) (now (gray .entry)))
         (afterToggle measures (now (psf .entry)) (now (gray .entry))
@@ -143,7 +143,7 @@ pub fn make_swap(
     requires { ⌜ (getD (now dots) (cellAt (measures .width) row col) 0
         ≡ getD (now dots) (cellAt (measures .width) row2 col2) 0 → ⊥) ⌝ }
     requires { ⌜ delta ≡ change (targetFor measures (now psf) (now gray)) (now dots)
-        (Reference.swap (now dots) (cellAt (measures .width) row col) (cellAt (measures .width) row2 col2)) ⌝ }
+        (Change.swap (now dots) (cellAt (measures .width) row col) (cellAt (measures .width) row2 col2)) ⌝ }
     requires { ⌜ natAbs delta ≤ 2 ^ 50 ⌝ }
     ensures { λ r. ⌜ r ≡ statsOf (targetFor measures (now (psf .entry)) (now (gray .entry)))
         (afterSwap measures (now (psf .entry)) (now (gray .entry))
