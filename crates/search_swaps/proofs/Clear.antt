@@ -12,7 +12,7 @@ use Rattle.algebra.proofs.Grid.{cell<, cell-row, cell-column}
 use Rattle.algebra.proofs.Order.{read≡}
 use Rattle.algebra.proofs.Solver.{reify}
 use Rattle.model.specs.Error.{Target, targetOf, cellAt, filteredErrors}
-use Rattle.model.specs.declared.ScanResult.{ScanResult}
+use Rattle.model.specs.declared.Progress.{Progress}
 use Rattle.model.specs.Partners.{biased, lands, partner, worthAt, HoldsOffsets, HoldsWorths, Within}
 use Rattle.model.specs.Refusal.{HalftoneFits}
 use Rattle.model.specs.Scan.{suits, swaps, sweepOf, visit}
@@ -104,7 +104,7 @@ module _ (w h r : ℕ) (psf gray dots : List ℕ) (n : ℕ) (f : HalftoneFits w 
     {count run : ℕ} (held : HoldsOffsets reach downs rights count) (worth : HoldsWorths r c downs rights count worths)
     (short : col + run ≤ w) (clear : CellsClear w dots table downs rights worths count row col run) where
   -- nothing is accepted at any cell
-  pub run-still : (i : ℕ) → i < run → (s : ScanResult)
+  pub run-still : (i : ℕ) → i < run → (s : Progress)
       → (let t = targetOf w h r psf gray in visit t (swaps t reach) dots s (cellAt w row col + i) ≡ sweepOf dots s)
   run-still i l s =
       subst (λ q. visit t (swaps t reach) dots s q ≡ sweepOf dots s) (sym at)

@@ -7,7 +7,7 @@ use Prim.Native.Nat.{ℕ, zero, suc, _+_, _≤_, _<_}
 use native.Mathlib.Numerals.{add-one}
 use native.Mathlib.Omega.{arith}
 use lib.ListN.{length, getD}
-use Rattle.model.specs.declared.ScanResult.{ScanResult}
+use Rattle.model.specs.declared.Progress.{Progress}
 use Rattle.model.specs.Error.{Target}
 use Rattle.model.specs.Partners.{Offset, offsets, biased, partner, HoldsOffsets}
 use Rattle.model.specs.Scan.{Sweep, suits, swapsAfter, sweepOf, Lowers, visit}
@@ -15,7 +15,7 @@ use Rattle.model.specs.Change.{swap, lowers}
 use Rattle.model.proofs.Loop.{pass-unsuited, pass-declined}
 
 module _ (t : Target) {reach : ℕ} {downs rights : List ℕ} {count : ℕ} (held : HoldsOffsets reach downs rights count)
-    (dots : List ℕ) (r : ScanResult) (m : ℕ) where
+    (dots : List ℕ) (r : Progress) (m : ℕ) where
   -- what a scan makes of the cell from the k-th offset on
   abbrev pub left : ℕ → Sweep
   left k = visit t (swapsAfter t reach k) dots r m

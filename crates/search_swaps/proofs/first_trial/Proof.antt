@@ -50,8 +50,8 @@ returns-2 c =
     let (vertical, across) = s .pre .1 .1 .1 .1 .1 in
     let clear = a .may-lower .ensures (c .if1 .left) in (
       le-refl _,
-      λ scan. all-failed (targetFor (s .args .measures) (s .args .psf .now) (s .args .gray .now)) held (s .args .dots .now)
-          scan (cellAt (s .args .measures .width) (s .args .at .row) (s .args .at .col))
+      λ progress. all-failed (targetFor (s .args .measures) (s .args .psf .now) (s .args .gray .now)) held (s .args .dots .now)
+          progress (cellAt (s .args .measures .width) (s .args .at .row) (s .args .at .col))
           (λ k h.
           let (y, x) = offset-near held (g .near) k h in
           none-lowers _ _ _ _ _ _ _ (s .pre .0) _ (s .pre .1 .1 .0) _ _ vertical across (s .pre .1 .0) _ _ _ g clear _ _ y x)

@@ -14,7 +14,7 @@ use Rattle.algebra.proofs.Grid.{cell<, rows-apart}
 use Rattle.model.specs.Error.{Target, targetFor, cellAt, filteredErrors}
 use Rattle.model.specs.Reference.{reference}
 use Rattle.model.specs.State.{LaterFits}
-use Rattle.model.specs.Scan.{Sweep, swaps, swapsAfter, Lowers, visit, resultOf}
+use Rattle.model.specs.Scan.{Sweep, swaps, swapsAfter, Lowers, visit, progressOf}
 use Rattle.model.specs.Partners.{biased, worthAt}
 use Rattle.model.proofs.Scan.{swaps-lawful}
 use Rattle.model.proofs.Attempts.{Sound, entry-sound}
@@ -31,25 +31,25 @@ either (inl a) f g = f a
 either (inr b) f g = g b
 
 abbrev Inv-partners : tie.InvT-partners
-Inv-partners measures psf gray c downs rights worths count side grid dots table scan at tested n k₀ k =
+Inv-partners measures psf gray c downs rights worths count side grid dots table progress at tested n k₀ k =
     (k ≤ count)
     × (let t = targetFor measures psf gray in
     let m = cellAt (measures .width) (at .row) (at .col) in
-    visit t (swapsAfter t (measures .reach) k) dots scan m ≡ visit t (swaps t (measures .reach)) dots scan m)
+    visit t (swapsAfter t (measures .reach) k) dots progress m ≡ visit t (swaps t (measures .reach)) dots progress m)
 
 abbrev μ-partners : tie.MeasureT-partners
-μ-partners measures psf gray c downs rights worths count side grid dots table scan at tested n k₀ k = count - k
+μ-partners measures psf gray c downs rights worths count side grid dots table progress at tested n k₀ k = count - k
 
 abbrev Inv-loop : tie.InvT-loop
-Inv-loop measures psf gray c downs rights worths count side grid dots₀ table₀ scan₀ at₀ tested₀ dots table scan at
+Inv-loop measures psf gray c downs rights worths count side grid dots₀ table₀ progress₀ at₀ tested₀ dots table progress at
     tested =
     Under measures psf gray (swaps (targetFor measures psf gray) (measures .reach))
-    (reference dots₀ (scan₀ .stats)) (cellAt (measures .width) (at .row) (at .col)) dots table scan
+    (reference dots₀ (progress₀ .stats)) (cellAt (measures .width) (at .row) (at .col)) dots table progress
     × (at .col < measures .width)
     × (cellAt (measures .width) (at .row) (at .col) ≤ measures .height * measures .width)
 
 abbrev μ-loop : tie.MeasureT-loop
-μ-loop measures psf gray c downs rights worths count side grid dots₀ table₀ scan₀ at₀ tested₀ dots table scan at
+μ-loop measures psf gray c downs rights worths count side grid dots₀ table₀ progress₀ at₀ tested₀ dots table progress at
     tested =
     measures .height * measures .width - cellAt (measures .width) (at .row) (at .col)
 
@@ -78,7 +78,7 @@ module _ (l : tie.At-loop Inv-partners μ-partners Inv-loop μ-loop) where
   sound = entry-sound _ _ _ (s .args .dots .now) (s .args .table .now) (s .args .stats) (s .pre .0)
 
   fits : LaterFits (s .args .measures) (s .args .psf .now) (s .args .gray .now) (l .loop .dots) (l .loop .table)
-      (l .loop .scan .stats)
+      (l .loop .progress .stats)
   fits = under-fits (l .loop .inv .0) (swaps-lawful t (s .args .measures .reach)) sound (l .loop .inv .2)
 
 -- a cell on the plate
@@ -123,7 +123,7 @@ loop-again c =
     let v = a .before .before .before in
     let l = here v in (
       under-at (under-skip (m l) (a .clear-swaps .result) (l .loop .inv .0) (fits l)
-          (λ i h. a .clear-swaps .ensures .1 i h (l .loop .scan)))
+          (λ i h. a .clear-swaps .ensures .1 i h (l .loop .progress)))
           (sym (c .ahead .ensures .0)),
       c .ahead .ensures .1,
       omega (
@@ -156,7 +156,7 @@ first-trial-requires c κs =
 partners-holds : tie.Need-partners-holds Inv-partners μ-partners Inv-loop μ-loop
 partners-holds c =
     let l = c .before .before .before .before .before .before .before .before .before .before .before in
-    (c .first-trial .ensures .0, c .first-trial .ensures .1 (l .loop .scan))
+    (c .first-trial .ensures .0, c .first-trial .ensures .1 (l .loop .progress))
 
 -- before a trial
 module _ (a : tie.Else3 Inv-partners μ-partners Inv-loop μ-loop) where
@@ -236,7 +236,7 @@ partners-again c =
     let a = low .before .before .before .before .before .before in
     let l = l2 a in (
       omega (arith, short a),
-      test-failed (t l) (s l .pre .1 .1 .0) (l .loop .dots) (l .loop .scan) (m l) (k a) (short a)
+      test-failed (t l) (s l .pre .1 .1 .0) (l .loop .dots) (l .loop .progress) (m l) (k a) (short a)
           (sym (low .lowering .ensures) ∙ c .if4 .left)
           ∙ a .before .partners .inv .1,
     )
@@ -260,18 +260,18 @@ module _ (j : tie.Joined3 Inv-partners μ-partners Inv-loop μ-loop) where
         λ h. subst (λ n.
             Lowers (t l3) (l3 .loop .dots) (m l3)
             (biased (getD (s l3 .args .downs .now) n 0) (getD (s l3 .args .rights .now) n 0))) (sym e)
-            (test-passed (t l3) (s l3 .pre .1 .1 .0) (l3 .loop .dots) (l3 .loop .scan) (m l3) (j .before .partners .k)
+            (test-passed (t l3) (s l3 .pre .1 .1 .0) (l3 .loop .dots) (l3 .loop .progress) (m l3) (j .before .partners .k)
             (sym (w .6 .ensures) ∙ w .7 .taken)),
         e,
       ))
 
   -- and with it all of the cell's attempts
-  all : visit (t l3) (swapsAfter (t l3) (s l3 .args .measures .reach) (j .if3 .found)) (l3 .loop .dots) (l3 .loop .scan)
+  all : visit (t l3) (swapsAfter (t l3) (s l3 .args .measures .reach) (j .if3 .found)) (l3 .loop .dots) (l3 .loop .progress)
       (m l3)
-      ≡ visit (t l3) (swaps (t l3) (s l3 .args .measures .reach)) (l3 .loop .dots) (l3 .loop .scan) (m l3)
+      ≡ visit (t l3) (swaps (t l3) (s l3 .args .measures .reach)) (l3 .loop .dots) (l3 .loop .progress) (m l3)
   all =
       ap (λ n.
-      visit (t l3) (swapsAfter (t l3) (s l3 .args .measures .reach) n) (l3 .loop .dots) (l3 .loop .scan) (m l3))
+      visit (t l3) (swapsAfter (t l3) (s l3 .args .measures .reach) n) (l3 .loop .dots) (l3 .loop .progress) (m l3))
       (ends .2)
       ∙ j .before .partners .inv .1
 
@@ -312,7 +312,7 @@ loop-again-2 c =
     let call = c .before .before .before .before in
     let j = call .before .before .before in
     let l = l3 j in (
-      under-at (under-next (l .loop .inv .0) (call .swap-cell .ensures .0 ∙ ap (resultOf (t l)) (all j))
+      under-at (under-next (l .loop .inv .0) (call .swap-cell .ensures .0 ∙ ap (progressOf (t l)) (all j))
           (call .swap-cell .ensures .1 .0 ∙ ap (λ (x : Sweep). x .after .dots) (all j))
           (call .swap-cell .ensures .1 .1 ∙ ap (λ (x : Sweep). filteredErrors (t l) (x .after .dots)) (all j)))
           (sym (c .next .ensures .0)),

@@ -21,7 +21,7 @@ use Rattle.search_swaps.proofs.swap_cell.Tie as tie
 -- what is known from the start
 module _ (s : tie.Start) where
   abbrev fits : LaterFits (s .args .measures) (s .args .psf .now) (s .args .gray .now) (s .args .dots .now)
-      (s .args .table .now) (s .args .scan .stats)
+      (s .args .table .now) (s .args .progress .stats)
   fits = s .pre .0
 
   abbrev held : HoldsOffsets (s .args .measures .reach) (s .args .downs .now) (s .args .rights .now) (s .args .count)
@@ -43,7 +43,7 @@ module _ (s : tie.Start) where
   abbrev col : ℕ
   col = s .args .at .col
 
-  abbrev here : (row < h) × (col < w) × (s .args .scan .changes < 2 ^ 63)
+  abbrev here : (row < h) × (col < w) × (s .args .progress .changes < 2 ^ 63)
   here = s .pre .1 .1 .1 .0
 
   -- the offset found
@@ -56,8 +56,8 @@ module _ (s : tie.Start) where
 returns : tie.Need-returns
 returns c =
     let s = c .before .before .before .before .before .before in
-    visit-none _ _ _ _ (s .args .scan) (fits s)
-    (swaps-over (target s) (s .args .measures .reach) _ (s .args .scan) _ (s .args .found)
+    visit-none _ _ _ _ (s .args .progress) (fits s)
+    (swaps-over (target s) (s .args .measures .reach) _ (s .args .progress) _ (s .args .found)
     (subst (λ n. n ≤ s .args .found) (held s .count-is) (c .if1 .taken)))
 
 -- a partner was found: where it stands, and that its dot is unlike
@@ -150,8 +150,8 @@ returns-2 c =
     let a = v .before .before .before .before .before .before .before .before .before .before in
     let k = s a in
     let stood = stands (w k) (h k) (row k) (col k) (here k .1) (down k) (right k) (on a) in
-    visit-one (k .args .measures) _ _ _ (k .args .scan) _
-    (swap-accepted (target k) (k .args .measures .reach) _ (k .args .scan) _ (k .args .found)
+    visit-one (k .args .measures) _ _ _ (k .args .progress) _
+    (swap-accepted (target k) (k .args .measures .reach) _ (k .args .progress) _ (k .args .found)
     (subst (λ n. k .args .found < n) (held k .count-is) (a .if1 .left)) (held k .at (k .args .found) (a .if1 .left))
     (lower a) stood)
     (v .make-swap .ensures .0) (v .make-swap .ensures .1 .0) (v .make-swap .ensures .1 .1)
