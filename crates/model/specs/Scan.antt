@@ -1,7 +1,6 @@
 -- Scans and settling (here: convergence) by the rules of document 01, as the reference makes them.
-use mathlib.Core.Bool.{Bool, true, _&&_, not}
+use mathlib.Core.Bool.{Bool, _&&_, not}
 use mathlib.Core.List.{List, [], _∷_}
-use mathlib.Core.Path.{_≡_}
 use Prim.Native.Nat.{ℕ, zero, suc, _+_}
 use lib.Dec.{eqb}
 use lib.IntN.{natAbs}
@@ -13,7 +12,7 @@ use Rattle.model.specs.Basic.{pick}
 use Rattle.model.specs.Error.{Target, cells, squaredError}
 use Rattle.model.specs.Partners.{Offset, offsets, lands, partner}
 use Rattle.model.specs.Reference.{Reference, reference, Performed, accept, statsOf}
-use Rattle.model.specs.Change.{Move, toggle, swap, lowers, look}
+use Rattle.model.specs.Change.{Move, toggle, swap, look}
 
 -- ---- what a scan attempts at cell m of these dots, in order, up to the first accepted
 abbrev pub Rule : Type 0
@@ -66,11 +65,6 @@ pub record Convergence : Type 0 where
   pub scans : ℕ
 
 module _ (t : Target) where
-  -- a partner at that offset suits, and the swap with it lowers E
-  pub record Lowers (dots : List ℕ) (m : ℕ) (o : Offset) : Type 0 where
-    pub suited : suits t dots m o ≡ true
-    pub lower : lowers t dots (swap dots m (partner (t .width) m o)) ≡ true
-
   -- attempts in order, up to the first accepted
   unfoldable pub tryEach : Sweep → List Move → Sweep
   tryEach s l = taking s (look t (s .after .dots) l .taken)

@@ -1,6 +1,6 @@
 // A swap scan of a judged plate whose kernel is c. A trial is decided by the table in a few operations, and cells where no
 // partner can lower the squared error are passed over. Where psf and gray are not read, they are there for the contract.
-ghost use mathlib.Core.Bool.{_&&_};
+ghost use mathlib.Core.Bool.{true};
 ghost use mathlib.Core.Path.{_≡_};
 ghost use Prim.Native.Nat.{ℕ, _+_, _^_, _≤_, _<_};
 ghost use lib.ListN.{length, getD};
@@ -9,10 +9,10 @@ ghost use Rattle.model.specs.Window.{HoldsKernel};
 ghost use Rattle.model.specs.Refusal.{HalftoneFits};
 ghost use Rattle.model.specs.State.{LaterFits};
 ghost use Rattle.model.specs.Reference.{reference};
-ghost use Rattle.model.specs.Partners.{biased, partner, worthAt, HoldsOffsets, HoldsWorths};
-ghost use Rattle.model.specs.Scan.{suits, Lowers, swaps, swapsAfter, sweepOf, visit, sweep, progressOf};
+ghost use Rattle.model.specs.Partners.{biased, worthAt, HoldsOffsets, HoldsWorths};
+ghost use Rattle.model.specs.Scan.{swaps, swapsAfter, visit, sweep, progressOf};
 ghost use Rattle.search_prune.specs.Grid.{GridFits};
-ghost use Rattle.model.specs.Change.{swap, lowers};
+ghost use Rattle.search_swaps.specs.Trials.{takes, Failed};
 use model::Measures;
 use model::Progress;
 use model::Stats;
@@ -54,9 +54,7 @@ fn lowering(
     requires { ⌜ worth ≡ worthAt (measures .radius) (now c) down right ⌝ }
     ensures { λ r. ⌜ (let t = targetFor measures (now (psf .entry)) (now (gray .entry)) in
         let m = cellAt (measures .width) (at .row) (at .col) in
-        r ≡ (suits t (now (dots .entry)) m (biased down right)
-        && lowers t (now (dots .entry))
-        (swap (now (dots .entry)) m (partner (measures .width) m (biased down right))))) ⌝ }
+        r ≡ takes t (now (dots .entry)) m (biased down right)) ⌝ }
 {
     let m = at.row * measures.width + at.col;
     let n = partner_cell(measures.width, measures.height, at, down, right);
@@ -91,10 +89,8 @@ fn clear_swaps(
     requires { ⌜ HoldsWorths (measures .radius) (now c) (now downs) (now rights) count (now worths) ⌝ }
     requires { ⌜ (at .row < measures .height) × (at .col < measures .width) ⌝ }
     ensures { λ r. ⌜ (let t = targetFor measures (now (psf .entry)) (now (gray .entry)) in
-        (at .col + r ≤ measures .width) × ((k : ℕ) → k < r → (progress : Progress)
-        → visit t (swaps t (measures .reach)) (now (dots .entry)) progress
-        (cellAt (measures .width) (at .row) (at .col) + k)
-        ≡ sweepOf (now (dots .entry)) progress)) ⌝ }
+        (at .col + r ≤ measures .width) × ((k : ℕ) → k < r
+        → Failed t (measures .reach) (now (dots .entry)) (cellAt (measures .width) (at .row) (at .col) + k) count)) ⌝ }
 {
     let m = at.row * measures.width + at.col;
     if m < tested {
@@ -143,10 +139,8 @@ fn first_trial(
     requires { ⌜ GridFits (measures .radius) (now c) (measures .reach) side (now grid) ⌝ }
     requires { ⌜ (at .row < measures .height) × (at .col < measures .width) ⌝ }
     ensures { λ r. ⌜ (let t = targetFor measures (now (psf .entry)) (now (gray .entry)) in
-        let m = cellAt (measures .width) (at .row) (at .col) in
-        (r ≤ count) × ((progress : Progress)
-        → visit t (swapsAfter t (measures .reach) r) (now (dots .entry)) progress m
-        ≡ visit t (swaps t (measures .reach)) (now (dots .entry)) progress m)) ⌝ }
+        (r ≤ count)
+        × Failed t (measures .reach) (now (dots .entry)) (cellAt (measures .width) (at .row) (at .col)) r) ⌝ }
 {
     let width = measures.width;
     let height = measures.height;
@@ -175,9 +169,9 @@ fn swap_cell(
     requires { ⌜ HoldsKernel (measures .radius) (now psf) (now c) ⌝ }
     requires { ⌜ HoldsOffsets (measures .reach) (now downs) (now rights) count ⌝ }
     requires { ⌜ (at .row < measures .height) × (at .col < measures .width) × (progress .changes < 2 ^ 63) ⌝ }
-    requires { ⌜ (found ≤ count) × (found < count → Lowers (targetFor measures (now psf) (now gray)) (now dots)
+    requires { ⌜ (found ≤ count) × (found < count → takes (targetFor measures (now psf) (now gray)) (now dots)
         (cellAt (measures .width) (at .row) (at .col))
-        (biased (getD (now downs) found 0) (getD (now rights) found 0))) ⌝ }
+        (biased (getD (now downs) found 0) (getD (now rights) found 0)) ≡ true) ⌝ }
     ensures { λ r. ⌜ (let t = targetFor measures (now (psf .entry)) (now (gray .entry)) in
         r ≡ progressOf t (visit t (swapsAfter t (measures .reach) found) (now (dots .entry)) progress
         (cellAt (measures .width) (at .row) (at .col)))) ⌝ }
@@ -185,8 +179,8 @@ fn swap_cell(
         now (dots .exit) ≡ visit t (swapsAfter t (measures .reach) found) (now (dots .entry)) progress
         (cellAt (measures .width) (at .row) (at .col)) .after .dots) ⌝ }
     ensures { λ _. ⌜ (let t = targetFor measures (now (psf .entry)) (now (gray .entry)) in
-        now (table .exit) ≡ filteredErrors t (visit t (swapsAfter t (measures .reach) found) (now (dots .entry)) progress
-        (cellAt (measures .width) (at .row) (at .col)) .after .dots)) ⌝ }
+        now (table .exit) ≡ filteredErrors t (visit t (swapsAfter t (measures .reach) found) (now (dots .entry))
+        progress (cellAt (measures .width) (at .row) (at .col)) .after .dots)) ⌝ }
 {
     if count <= found {
         return progress;

@@ -1,24 +1,21 @@
 -- What a scan makes of one cell of a judged plate: nothing is accepted and all stays, or one change is accepted.
 use mathlib.Core.Bool.{true, false}
 use mathlib.Core.List.{List, []}
-use mathlib.Core.Path.{_≡_, refl, sym, _∙_, ap, subst, ap₂}
-use Prim.Native.Nat.{ℕ, _+_, _≤_, _<_}
+use mathlib.Core.Path.{_≡_, refl, _∙_, ap, ap₂}
+use Prim.Native.Nat.{ℕ, _+_}
 use native.Mathlib.Numerals.{add-one}
 use lib.IntN.{ℤ}
-use lib.ListN.{length, getD}
 use Rattle.model.specs.declared.Measures.{Measures}
 use Rattle.model.specs.declared.Stats.{Stats}
 use Rattle.model.specs.declared.Progress.{Progress}
 use Rattle.model.specs.Basic.{pick}
 use Rattle.model.specs.Error.{Target, targetFor, filteredErrors}
 use Rattle.model.specs.Reference.{reference, accept, statsOf}
-use Rattle.model.specs.Partners.{Offset, offsets, biased, partner}
 use Rattle.model.specs.State.{LaterFits}
-use Rattle.model.specs.Scan.{toggles, swapsAfter, Sweep, sweepOf, Lowers, tryEach, visit, progressOf}
-use Rattle.model.specs.Change.{Move, toggle, swap, lowers}
+use Rattle.model.specs.Scan.{toggles, Sweep, sweepOf, tryEach, visit, progressOf}
+use Rattle.model.specs.Change.{Move, toggle, lowers}
 use Rattle.model.proofs.Attempts.{entry-stats}
 use Rattle.model.proofs.Scan.{more, try-none, try-step}
-use Rattle.model.proofs.Loop.{left-none, taken}
 
 module _ (m : Measures) (psf gray dots : List ℕ) (r : Progress) where
   abbrev t : Target
@@ -63,21 +60,3 @@ module _ (t : Target) (dots : List ℕ) (r : Progress) (n : ℕ) where
   toggle-accepted e =
       try-step t (sweepOf dots r) (toggle dots n) []
       ∙ ap (λ b. pick b (more (sweepOf dots r) (toggle dots n)) (tryEach t (sweepOf dots r) [])) e
-
--- ---- a swap scan at cell n, from the j-th offset on
-module _ (t : Target) (reach : ℕ) (dots : List ℕ) (r : Progress) (n j : ℕ) where
-  abbrev visited : Sweep
-  visited = visit t (swapsAfter t reach j) dots r n
-
-  -- none is left
-  pub swaps-over : length (offsets reach) ≤ j → visited ≡ sweepOf dots r
-  swaps-over = left-none t reach (sweepOf dots r) n j
-
-  -- the swap with the cell k at that offset is accepted
-  pub swap-accepted : j < length (offsets reach) → {o : Offset} → getD (offsets reach) j (biased 6 6) ≡ o
-      → Lowers t dots n o → {k : ℕ} → partner (t .width) n o ≡ k
-      → visited ≡ more (sweepOf dots r) (swap dots n k)
-  swap-accepted h {o} e l there =
-      let first : Lowers t dots n (getD (offsets reach) j (biased 6 6)) = subst (Lowers t dots n) (sym e) l in
-      taken t reach (sweepOf dots r) n j h (first .suited) (first .lower)
-      ∙ ap (λ i. more (sweepOf dots r) (swap dots n i)) (ap (partner (t .width) n) e ∙ there)

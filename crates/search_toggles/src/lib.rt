@@ -44,10 +44,11 @@ fn toggle_cell(
     requires { ⌜ HoldsKernel (measures .radius) (now psf) (now c) ⌝ }
     requires { ⌜ (at .row < measures .height) × (at .col < measures .width) × (progress .changes < 2 ^ 63) ⌝ }
     ensures { λ r. ⌜ (let t = targetFor measures (now (psf .entry)) (now (gray .entry)) in
-        r ≡ progressOf t (visit t (toggles t) (now (dots .entry)) progress (cellAt (measures .width) (at .row) (at .col)))) ⌝ }
+        r ≡ progressOf t (visit t (toggles t) (now (dots .entry)) progress
+        (cellAt (measures .width) (at .row) (at .col)))) ⌝ }
     ensures { λ _. ⌜ (let t = targetFor measures (now (psf .entry)) (now (gray .entry)) in
-        now (dots .exit) ≡ visit t (toggles t) (now (dots .entry)) progress (cellAt (measures .width) (at .row) (at .col))
-        .after .dots) ⌝ }
+        now (dots .exit) ≡ visit t (toggles t) (now (dots .entry)) progress
+        (cellAt (measures .width) (at .row) (at .col)) .after .dots) ⌝ }
     ensures { λ _. ⌜ (let t = targetFor measures (now (psf .entry)) (now (gray .entry)) in
         now (table .exit) ≡ filteredErrors t (visit t (toggles t) (now (dots .entry)) progress
         (cellAt (measures .width) (at .row) (at .col)) .after .dots)) ⌝ }

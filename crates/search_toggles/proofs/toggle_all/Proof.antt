@@ -21,7 +21,8 @@ use Rattle.search_toggles.proofs.toggle_all.Tie as tie
 abbrev Inv-loop : tie.InvT-loop
 Inv-loop measures psf gray c dots₀ table₀ progress₀ cell₀ tested₀ dots table progress cell tested =
     let n = cellAt (measures .width) (cell .row) (cell .col) in
-    Under measures psf gray (toggles (targetFor measures psf gray)) (reference dots₀ (progress₀ .stats)) n dots table progress
+    Under measures psf gray (toggles (targetFor measures psf gray)) (reference dots₀ (progress₀ .stats)) n dots table
+    progress
     × (cell .col < measures .width)
     × (n ≤ measures .height * measures .width)
 
@@ -93,7 +94,8 @@ loop-again c =
     let v = a .before .before .before in
     let l = here v in (
       under-at (under-skip (n v) (a .clear-run .result) (l .loop .inv .0) (fits l)
-          (λ j h. toggle-declined (target l) (l .loop .dots) (l .loop .progress) (n v + j) (a .clear-run .ensures .1 j h)))
+          (λ j h. toggle-declined (target l) (l .loop .dots) (l .loop .progress) (n v + j)
+          (a .clear-run .ensures .1 j h)))
           (sym (c .ahead .ensures .0)),
       c .ahead .ensures .1,
       omega (
