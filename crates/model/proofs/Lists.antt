@@ -16,7 +16,7 @@ use Rattle.model.specs.Refusal.{Refusal, _when_, firstOf}
 use Rattle.model.specs.State.{Asked, asks, noCell, toggleAsked, swapAsked, laterRefusals, LaterFits}
 use Rattle.model.specs.State.{laterRefusal, toggleRefusal, swapRefusal}
 use Rattle.model.specs.Reference.{Reference, reference, Performed, statsOf, attempt}
-use Rattle.model.specs.Scan.{Rule, toggles, swaps, scan, resultOf, converge}
+use Rattle.model.specs.Scan.{Rule, toggles, swaps, scan, progressOf, converge}
 use Rattle.model.specs.Calls.{Reply, result, Outcome, unless, Buffers, laterCall}
 use Rattle.model.specs.Calls.{toggleCall, swapCall, toggleScanCall, swapScanCall, convergeCall}
 use Rattle.model.specs.Lists.{Call, toggleAt, swapAt, toggleScan, swapScan, convergence}
@@ -63,7 +63,7 @@ module _ (t : Target) (p : Reference) where
   attempt-counted v = attempt-cases t p v (Counted tried) (λ l. refl) (λ l. refl)
 
   scan-counted : (rule : Rule) → Counted swept (scan t rule p)
-  unfolding scan resultOf
+  unfolding scan progressOf
   scan-counted rule = refl
 
   converge-counted : (reach : ℕ) → Counted rested (converge t reach p)

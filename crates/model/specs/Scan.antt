@@ -1,18 +1,18 @@
 -- Scans and settling (here: convergence) by the rules of document 01, as the reference makes them.
-use mathlib.Core.Bool.{Bool, true, _&&_, not}
+use mathlib.Core.Bool.{Bool, _&&_, not}
 use mathlib.Core.List.{List, [], _∷_}
-use mathlib.Core.Path.{_≡_}
 use Prim.Native.Nat.{ℕ, zero, suc, _+_}
 use lib.Dec.{eqb}
 use lib.IntN.{natAbs}
 use lib.ListN.{getD, drop}
+use Rattle.model.specs.declared.Progress.{Progress}
 use Rattle.model.specs.declared.ScanResult.{ScanResult}
 use Rattle.model.specs.declared.ConvergeResult.{ConvergeResult}
 use Rattle.model.specs.Basic.{pick}
 use Rattle.model.specs.Error.{Target, cells, squaredError}
 use Rattle.model.specs.Partners.{Offset, offsets, lands, partner}
 use Rattle.model.specs.Reference.{Reference, reference, Performed, accept, statsOf}
-use Rattle.model.specs.Change.{Move, toggle, swap, lowers, look}
+use Rattle.model.specs.Change.{Move, toggle, swap, look}
 
 -- ---- what a scan attempts at cell m of these dots, in order, up to the first accepted
 abbrev pub Rule : Type 0
@@ -51,9 +51,13 @@ abbrev pub taking : Sweep → List Move → Sweep
 taking s [] = s
 taking s (v ∷ l) = record { after = accept (s .after) v; changes = suc (s .changes) }
 
--- the same with these dots and the figures of this result
-abbrev pub sweepOf : List ℕ → ScanResult → Sweep
+-- the same with these dots and the figures of this progress
+abbrev pub sweepOf : List ℕ → Progress → Sweep
 sweepOf dots r = record { after = reference dots (r .stats); changes = r .changes }
+
+-- a scan answers what it has come to
+abbrev pub resultOf : Progress → ScanResult
+resultOf r = record { stats = r .stats; changes = r .changes }
 
 -- a settling under way: the reference, and the scans that it has made
 pub record Convergence : Type 0 where
@@ -61,17 +65,16 @@ pub record Convergence : Type 0 where
   pub scans : ℕ
 
 module _ (t : Target) where
-  -- a partner at that offset suits, and the swap with it lowers E
-  pub record Lowers (dots : List ℕ) (m : ℕ) (o : Offset) : Type 0 where
-    pub suited : suits t dots m o ≡ true
-    pub lower : lowers t dots (swap dots m (partner (t .width) m o)) ≡ true
-
   -- attempts in order, up to the first accepted
   unfoldable pub tryEach : Sweep → List Move → Sweep
   tryEach s l = taking s (look t (s .after .dots) l .taken)
 
-  -- a scan at cell m, with that result so far
-  abbrev pub visit : Rule → List ℕ → ScanResult → ℕ → Sweep
+  -- what it has come to: the new ledger and its accepted changes
+  unfoldable pub progressOf : Sweep → Progress
+  progressOf s = record { stats = statsOf t (s .after); changes = s .changes }
+
+  -- a scan at cell m, having come to that so far
+  abbrev pub visit : Rule → List ℕ → Progress → ℕ → Sweep
   visit rule dots r m = tryEach (sweepOf dots r) (rule dots m)
 
   -- a scan of the first n cells, in raster order
@@ -83,12 +86,8 @@ module _ (t : Target) where
   abbrev pub sweep : Rule → Reference → Sweep
   sweep rule p = sweepTo rule p (cells t)
 
-  -- it answers the new ledger and its accepted changes
-  unfoldable pub resultOf : Sweep → ScanResult
-  resultOf s = record { stats = statsOf t (s .after); changes = s .changes }
-
   unfoldable pub scan : Rule → Reference → Performed ScanResult
-  scan rule p = record { answer = resultOf (sweep rule p); after = sweep rule p .after }
+  scan rule p = record { answer = resultOf (progressOf (sweep rule p)); after = sweep rule p .after }
 
   module _ (reach : ℕ) where
     -- toggle scans until one accepts nothing, then one swap scan; if that accepted something, again from the toggle

@@ -51,6 +51,12 @@ pub enum Attempt {
     Refused(u32),
 }
 
+// What a scan has come to so far: the ledger and the changes that it has accepted.
+pub struct Progress {
+    pub stats: Stats,
+    pub changes: u64,
+}
+
 // What a scan answers: the new ledger and the changes that it accepted.
 pub struct ScanResult {
     pub stats: Stats,

@@ -1,12 +1,15 @@
 // The public calls that change a plate: attempts, scans and settling. Each judges all that it is handed, once; then the
 // table decides, and a change is made only where it lowers the squared error. A refusal changes nothing.
 ghost use mathlib.Core.Path.{_≡_};
+ghost use Rattle.model.specs.Scan.{resultOf};
 ghost use Rattle.model.specs.Calls.{attempted, scanned, converged};
 ghost use Rattle.model.specs.Calls.{toggleCall, swapCall, toggleScanCall, swapScanCall, convergeCall};
 use filter_correlate::kernel;
 use model::Attempt;
 use model::Converged;
 use model::Measures;
+use model::Progress;
+use model::ScanResult;
 use model::Scanned;
 use model::Stats;
 use search_converge::come_to_rest;
@@ -95,6 +98,17 @@ pub fn try_swap(
     )
 }
 
+// What a scan answers, having come to that.
+fn result_of(progress: Progress) -> ScanResult
+    ensures { λ r. ⌜ r ≡ resultOf progress ⌝ }
+{
+    let stats = progress.stats;
+    ScanResult {
+        stats: stats,
+        changes: progress.changes,
+    }
+}
+
 // A toggle scan: a toggle attempted at each cell, in raster order.
 pub fn toggle_scan(
     measures: Measures,
@@ -116,7 +130,8 @@ pub fn toggle_scan(
         return Scanned::Refused(number);
     }
     let c = kernel(measures.radius, psf);
-    Scanned::Done(toggle_all(measures, psf, gray, &c, dots, table, stats))
+    let progress = toggle_all(measures, psf, gray, &c, dots, table, stats);
+    Scanned::Done(result_of(progress))
 }
 
 // A swap scan: at each cell, in raster order, the partners within reach, farthest first, up to the first that lowers
@@ -141,7 +156,8 @@ pub fn swap_scan(
         return Scanned::Refused(number);
     }
     let c = kernel(measures.radius, psf);
-    Scanned::Done(swap_all(measures, psf, gray, &c, dots, table, stats))
+    let progress = swap_all(measures, psf, gray, &c, dots, table, stats);
+    Scanned::Done(result_of(progress))
 }
 
 // A settling: toggle scans until one accepts nothing, then one swap scan; if that accepted something, again from the

@@ -12,12 +12,12 @@ use native.Mathlib.Omega.{arith}
 use lib.IntN.{ℤ, natAbs}
 use Rattle.model.specs.declared.Measures.{Measures}
 use Rattle.model.specs.declared.Stats.{Stats}
-use Rattle.model.specs.declared.ScanResult.{ScanResult}
+use Rattle.model.specs.declared.Progress.{Progress}
 use Rattle.model.specs.Error.{Target, targetFor, cells, filteredErrors, squaredError}
 use Rattle.model.specs.Ledger.{changes}
 use Rattle.model.specs.State.{LaterFits}
 use Rattle.model.specs.Reference.{Reference, reference, statsOf}
-use Rattle.model.specs.Scan.{Rule, toggles, swaps, Sweep, sweep, resultOf, scan, convergeFrom, converge}
+use Rattle.model.specs.Scan.{Rule, toggles, swaps, Sweep, sweep, progressOf, convergeFrom, converge}
 use Rattle.model.proofs.Attempts.{entry-stats, entry-sound}
 use Rattle.model.proofs.Scan.{Lawful, sweep-later, sweep-counts, sweep-still, sweep-lowers}
 use Rattle.model.proofs.Converge.{converge-again, converge-anew, converge-end}
@@ -27,24 +27,24 @@ module _ (m : Measures) (psf gray : List ℕ) where
   t = targetFor m psf gray
 
   -- ---- a scan that was made beside the reference q
-  pub record Made (rule : Rule) (q : Reference) (dots : List ℕ) (table : List ℤ) (r : ScanResult) : Type 0 where
+  pub record Made (rule : Rule) (q : Reference) (dots : List ℕ) (table : List ℤ) (r : Progress) : Type 0 where
     pub fits : LaterFits m psf gray dots table (r .stats)
     pub after-is : reference dots (r .stats) ≡ sweep t rule q .after
     pub changes-are : r .changes ≡ sweep t rule q .changes
 
   pub made-by : (rule : Rule) → Lawful t rule → (dots : List ℕ) (table : List ℤ) (s : Stats)
       → LaterFits m psf gray dots table s
-      → {dots′ : List ℕ} {table′ : List ℤ} {r : ScanResult}
-      → r ≡ scan t rule (reference dots s) .answer
-      → dots′ ≡ scan t rule (reference dots s) .after .dots
-      → table′ ≡ filteredErrors t (scan t rule (reference dots s) .after .dots)
+      → {dots′ : List ℕ} {table′ : List ℤ} {r : Progress}
+      → r ≡ progressOf t (sweep t rule (reference dots s))
+      → dots′ ≡ sweep t rule (reference dots s) .after .dots
+      → table′ ≡ filteredErrors t (sweep t rule (reference dots s) .after .dots)
       → Made rule (reference dots s) dots′ table′ r
-  unfolding scan resultOf statsOf
+  unfolding progressOf statsOf
   made-by rule lawful dots table s f {dots′} {table′} {r} er ed et =
       subst (λ x. Made rule q dots′ table′ x) (sym er)
-      (subst (λ x. Made rule q dots′ x (resultOf t (sweep t rule q))) (sym et)
+      (subst (λ x. Made rule q dots′ x (progressOf t (sweep t rule q))) (sym et)
       (subst
-      (λ x. Made rule q x (filteredErrors t (sweep t rule q .after .dots)) (resultOf t (sweep t rule q))) (sym ed)
+      (λ x. Made rule q x (filteredErrors t (sweep t rule q .after .dots)) (progressOf t (sweep t rule q))) (sym ed)
       (record {
         fits =
             sweep-later m psf gray rule lawful q (entry-sound m psf gray dots table s f) (cells t) (le-refl (cells t));
@@ -56,7 +56,7 @@ module _ (m : Measures) (psf gray : List ℕ) where
       q = reference dots s
 
   module _ {rule : Rule} {dots : List ℕ} {table : List ℤ} {s : Stats} (f : LaterFits m psf gray dots table s)
-      {dots′ : List ℕ} {table′ : List ℤ} {r : ScanResult} (made : Made rule (reference dots s) dots′ table′ r) where
+      {dots′ : List ℕ} {table′ : List ℤ} {r : Progress} (made : Made rule (reference dots s) dots′ table′ r) where
     -- its accepted changes are those counted
     made-counts : r .changes + changes (s .figures) ≡ changes (r .stats .figures)
     made-counts =
@@ -105,7 +105,7 @@ module _ (m : Measures) (psf gray : List ℕ) where
         let g = f .fits .state in
         omega (arith, f .few, g .on-few, g .off-few, g .swaps-few)
 
-    module _ {dots1 : List ℕ} {table1 : List ℤ} {a : ScanResult}
+    module _ {dots1 : List ℕ} {table1 : List ℤ} {a : Progress}
         (made : Made (toggles t) (reference dots s) dots1 table1 a) where
       -- the toggle scan accepts something
       pub turning-again : (a .changes ≡ 0 → ⊥) → Turning p (n + 1) dots1 table1 (a .stats)
@@ -123,7 +123,7 @@ module _ (m : Measures) (psf gray : List ℕ) where
       again-lower = made-lower (f .fits) made
 
       -- it accepts nothing, and the swap scan follows
-      module _ (none : a .changes ≡ 0) {dots2 : List ℕ} {table2 : List ℤ} {b : ScanResult}
+      module _ (none : a .changes ≡ 0) {dots2 : List ℕ} {table2 : List ℤ} {b : Progress}
           (swept : Made (swaps t (m .reach)) (reference dots1 (a .stats)) dots2 table2 b) where
         abbrev swapped : Reference → Sweep
         swapped = sweep t (swaps t (m .reach))

@@ -1,12 +1,11 @@
--- What the quick tests show of the trials: where every one fails, no partner lowers E.
+-- Rows in which every trial fails hold no partner that lowers E: what the quick tests show of the trials.
 --   offset-near  the offsets that the code holds are within reach
 --   none-lowers  of one cell, in the rows around it
---   run-still    of a run of cells: nothing is accepted at any of them
-use mathlib.Core.Bool.{Bool, true, false, _&&_}
+--   run-failed   of a run of cells: every trial at each of them fails
+use mathlib.Core.Bool.{Bool, true, false}
 use mathlib.Core.List.{List, [], _∷_}
 use mathlib.Core.Path.{_≡_, refl, sym, _∙_, subst}
 use Prim.Native.Nat.{ℕ, _+_, _*_, _-_, _≤_, _<_}
-use native.Mathlib.Nat.{le-refl, le-of-eq}
 use native.Mathlib.Omega.{arith}
 use borrow.Author.Tests.{le-leb}
 use lib.IntN.{ℤ, pos, negsuc, natAbs, _-ℤ_}
@@ -15,18 +14,15 @@ use Rattle.algebra.proofs.Grid.{cell<, cell-row, cell-column}
 use Rattle.algebra.proofs.Order.{read≡}
 use Rattle.algebra.proofs.Solver.{reify}
 use Rattle.model.specs.Error.{Target, targetOf, cellAt, filteredErrors}
-use Rattle.model.specs.declared.ScanResult.{ScanResult}
-use Rattle.model.specs.Partners.{biased, lands, partner, worthAt, HoldsOffsets, HoldsWorths, Within}
+use Rattle.model.specs.Partners.{biased, lands, worthAt, HoldsOffsets, HoldsWorths, Within}
 use Rattle.model.specs.Refusal.{HalftoneFits}
-use Rattle.model.specs.Scan.{suits, swaps, sweepOf, visit}
 use Rattle.model.specs.Window.{HoldsKernel}
-use Rattle.model.specs.Change.{swap, lowers}
 use Rattle.model.proofs.Partners.{entry-within}
 use Rattle.search_prune.specs.Grid.{worthIn, GridFits, RowsClear}
 use Rattle.search_runs.specs.Run.{Fails, CellsClear}
-use Rattle.search_toggles.proofs.Visit.{swaps-over}
 use Rattle.search_swaps.proofs.Partner.{landed, stands, trial-is}
-use Rattle.search_swaps.proofs.Trials.{all-failed}
+use Rattle.search_swaps.proofs.Trials.{failed-all}
+use Rattle.search_swaps.specs.Trials.{takes, Failed}
 
 -- a coordinate within reach, 6 added
 near-by : (q d : ℕ) → natAbs (pos d -ℤ pos 6) ≤ q → (6 ≤ d + q) × (d ≤ 6 + q)
@@ -62,26 +58,21 @@ entry-is r c reach side grid g down right y x =
     g .holds .at (j * side + i) (cell< low short)
     ∙ rw (cell-row {y = j} short, cell-column j short, le-leb i (2 * reach) (omega arith), row, column) refl
 
--- ---- a partner at an offset does not both suit and lower E
+-- ---- the partner at an offset is not taken
 module _ (w h r : ℕ) (psf gray dots : List ℕ) (n : ℕ) (f : HalftoneFits w h r psf gray dots n) (c : List ℤ)
     (k : HoldsKernel r psf c) (row col : ℕ) (vertical : row < h) (across : col < w) {table : List ℤ}
     (e : table ≡ filteredErrors (targetOf w h r psf gray) dots) where
-  -- what a trial tests
-  abbrev Passed : ℕ → ℕ → Type 0
-  Passed down right =
-      suits (targetOf w h r psf gray) dots (cellAt w row col) (biased down right)
-      && lowers (targetOf w h r psf gray) dots
-      (swap dots (cellAt w row col) (partner w (cellAt w row col) (biased down right)))
-      ≡ false
+  abbrev Missed : ℕ → ℕ → Type 0
+  Missed down right = takes (targetOf w h r psf gray) dots (cellAt w row col) (biased down right) ≡ false
 
   -- where the trial by the table fails if the partner lands
   by-table : (down right : ℕ)
       → (6 ≤ row + down → 6 ≤ col + right → row + down - 6 < h
       → Fails dots table (cellAt w row col) (cellAt w (row + down - 6) (col + right - 6)) (worthAt r c down right))
-      → Passed down right
+      → Missed down right
   by-table down right fails = go (lands w h (cellAt w row col) (biased down right)) refl
     where
-      go : (b : Bool) → lands w h (cellAt w row col) (biased down right) ≡ b → Passed down right
+      go : (b : Bool) → lands w h (cellAt w row col) (biased down right) ≡ b → Missed down right
       go false l = rw l refl
       go true l =
           let ((top, first), (bottom, last)) = landed w h row col across down right l in
@@ -91,7 +82,7 @@ module _ (w h r : ℕ) (psf gray dots : List ℕ) (n : ℕ) (f : HalftoneFits w 
   -- in rows where every trial fails
   pub none-lowers : (reach side : ℕ) (grid : List ℤ) → GridFits r c reach side grid
       → RowsClear w h reach side dots table grid row col → (down right : ℕ)
-      → (6 ≤ down + reach) × (down ≤ 6 + reach) → (6 ≤ right + reach) × (right ≤ 6 + reach) → Passed down right
+      → (6 ≤ down + reach) × (down ≤ 6 + reach) → (6 ≤ right + reach) × (right ≤ 6 + reach) → Missed down right
   none-lowers reach side grid g clear down right y x =
       by-table down right (λ top first bottom.
       let row-is : row + (down + reach - 6) - reach ≡ row + down - 6 = omega arith in
@@ -106,25 +97,16 @@ module _ (w h r : ℕ) (psf gray dots : List ℕ) (n : ℕ) (f : HalftoneFits w 
     (e : table ≡ filteredErrors (targetOf w h r psf gray) dots) {reach : ℕ} {downs rights : List ℕ} {worths : List ℤ}
     {count run : ℕ} (held : HoldsOffsets reach downs rights count) (worth : HoldsWorths r c downs rights count worths)
     (short : col + run ≤ w) (clear : CellsClear w dots table downs rights worths count row col run) where
-  -- nothing is accepted at any cell
-  pub run-still : (i : ℕ) → i < run → (s : ScanResult)
-      → (let t = targetOf w h r psf gray in visit t (swaps t reach) dots s (cellAt w row col + i) ≡ sweepOf dots s)
-  run-still i l s =
-      subst (λ q. visit t (swaps t reach) dots s q ≡ sweepOf dots s) (sym at)
-      (sym (all-failed t held dots s (cellAt w row (col + i)) fails count (le-refl _))
-      ∙ swaps-over t reach dots s (cellAt w row (col + i)) count (le-of-eq (sym (held .count-is))))
+  -- no partner is taken at any cell
+  pub run-failed : (i : ℕ) → i < run → Failed (targetOf w h r psf gray) reach dots (cellAt w row col + i) count
+  run-failed i l =
+      subst (λ q. Failed t reach dots q count) (sym at)
+      (failed-all t held dots (cellAt w row (col + i)) (λ j m.
+      by-table w h r psf gray dots n f c k row (col + i) vertical (omega arith) e (getD downs j 0) (getD rights j 0)
+      (λ top first bottom. rw (at, worth .at j m) at (clear .each j i m l top first))))
     where
       t : Target
       t = targetOf w h r psf gray
 
       at : cellAt w row col + i ≡ cellAt w row (col + i)
       at = omega arith
-
-      fails : (j : ℕ) → j < count
-          → suits (targetOf w h r psf gray) dots (cellAt w row (col + i)) (biased (getD downs j 0) (getD rights j 0))
-          && lowers (targetOf w h r psf gray) dots (swap dots (cellAt w row (col + i))
-          (partner w (cellAt w row (col + i)) (biased (getD downs j 0) (getD rights j 0))))
-          ≡ false
-      fails j m =
-          by-table w h r psf gray dots n f c k row (col + i) vertical (omega arith) e (getD downs j 0) (getD rights j 0)
-          (λ top first bottom. rw (at, worth .at j m) at (clear .each j i m l top first))

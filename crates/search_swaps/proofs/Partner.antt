@@ -24,6 +24,7 @@ use Rattle.model.specs.Scan.{suits}
 use Rattle.model.specs.Window.{HoldsKernel}
 use Rattle.model.proofs.Partners.{lands-on}
 use Rattle.model.proofs.State.{below}
+use Rattle.search_swaps.specs.Trials.{takes}
 use Rattle.search_partners.proofs.Landing.{lands-is, partner-is}
 use Rattle.search_change.proofs.Signs.{multiple-sign}
 use Rattle.search_trial.proofs.Weighed.{swap-is}
@@ -155,7 +156,7 @@ module _ (w h r : ℕ) (psf gray dots : List ℕ) (n : ℕ) (f : HalftoneFits w 
 
     pub trial-is : {i : ℕ} {worth : ℤ} {answer : Bool} → i ≡ p → worth ≡ worthAt r c down right
         → answer ≡ unlike i && falls i worth
-        → answer ≡ suits t dots q (biased down right) && lowers t dots (swap dots q p)
+        → answer ≡ takes t dots q (biased down right)
     trial-is u v d =
         d
         ∙ ap₂ (λ i worth. unlike i && falls i worth) (u ∙ stands w h row col across down right l) v

@@ -1,68 +1,84 @@
--- The trials of a swap scan at one cell, with the offsets as the code holds them.
---   test-passed  the partner suits, and the swap with it lowers E
---   test-failed  it does not both suit and lower E, and is passed over
---   all-failed   where every one failed, none is left to try
+-- The trials of a swap scan at one cell: the partners that it does not take are passed over, and the first that it
+-- takes ends them.
+--   all-failed               where every trial before k failed, those from k on are left
+--   swap-taken               the first that is taken
+--   failed-all, failed-next  the trials that failed, all of them and one more
+--   failed-still             where every one failed, the cell stays as it was
 use mathlib.Core.Bool.{Bool, true, false, _&&_, and-eq-true-iff}
 use mathlib.Core.List.{List}
 use mathlib.Core.Path.{_≡_, refl, sym, _∙_, ap, subst}
 use Prim.Native.Nat.{ℕ, zero, suc, _+_, _≤_, _<_}
-use native.Mathlib.Numerals.{add-one}
+use native.Mathlib.Decide.{ℕ-discrete}
+use native.Mathlib.Nat.{le-refl, le-of-eq}
 use native.Mathlib.Omega.{arith}
 use lib.ListN.{length, getD}
-use Rattle.model.specs.declared.ScanResult.{ScanResult}
+use Rattle.model.specs.declared.Progress.{Progress}
+use Rattle.model.specs.Change.{swap, lowers}
 use Rattle.model.specs.Error.{Target}
 use Rattle.model.specs.Partners.{Offset, offsets, biased, partner, HoldsOffsets}
-use Rattle.model.specs.Scan.{Sweep, suits, swapsAfter, sweepOf, Lowers, visit}
-use Rattle.model.specs.Change.{swap, lowers}
-use Rattle.model.proofs.Loop.{pass-unsuited, pass-declined}
+use Rattle.model.specs.Scan.{Sweep, suits, swaps, swapsAfter, sweepOf, visit}
+use Rattle.model.proofs.Loop.{left-none, pass-unsuited, pass-declined, taken}
+use Rattle.model.proofs.Scan.{more}
+use Rattle.search_swaps.specs.Trials.{takes, Failed}
 
-module _ (t : Target) {reach : ℕ} {downs rights : List ℕ} {count : ℕ} (held : HoldsOffsets reach downs rights count)
-    (dots : List ℕ) (r : ScanResult) (m : ℕ) where
-  -- what a scan makes of the cell from the k-th offset on
-  abbrev pub left : ℕ → Sweep
+-- ---- what a scan that has come to r makes of cell m from the k-th offset on
+module _ (t : Target) (reach : ℕ) (dots : List ℕ) (r : Progress) (m : ℕ) where
+  abbrev left : ℕ → Sweep
   left k = visit t (swapsAfter t reach k) dots r m
 
   abbrev offset : ℕ → Offset
-  offset k = biased (getD downs k 0) (getD rights k 0)
+  offset k = getD (offsets reach) k (biased 6 6)
 
-  -- what a trial tests
-  abbrev Test : Bool → ℕ → Type 0
-  Test b k =
-      suits t dots m (offset k)
-      && lowers t dots (swap dots m (partner (t .width) m (offset k)))
-      ≡ b
-
-  pub test-passed : (k : ℕ) → Test true k → Lowers t dots m (offset k)
-  test-passed k e =
-      let (suited, lower) = and-eq-true-iff _ _ .0 e in
-      record { suited = suited; lower = lower }
-
-  pub test-failed : (k : ℕ) → k < count → Test false k → left (k + 1) ≡ left k
-  test-failed k h e = ap left next ∙ sym (go (suits t dots m (offset k)) refl e)
+  -- the partner there is not taken
+  passed : (k : ℕ) → k < length (offsets reach) → takes t dots m (offset k) ≡ false → left k ≡ left (suc k)
+  passed k h = go (suits t dots m (offset k)) refl
     where
-      next : k + 1 ≡ suc k
-      next = omega arith
-
-      here : k < length (offsets reach)
-      here = omega (arith, held .count-is)
-
-      -- as the definitions have it
-      known : (P : Offset → Type 0) → P (offset k) → P (getD (offsets reach) k (biased 6 6))
-      known P = subst P (sym (held .at k h))
-
       go : (b : Bool) → suits t dots m (offset k) ≡ b
           → b && lowers t dots (swap dots m (partner (t .width) m (offset k))) ≡ false
           → left k ≡ left (suc k)
-      go false s d =
-          pass-unsuited t reach (sweepOf dots r) m k here
-          (known (λ o. suits t dots m o ≡ false) s)
-      go true s d =
-          pass-declined t reach (sweepOf dots r) m k here
-          (known (λ o. suits t dots m o ≡ true) s)
-          (known (λ o. lowers t dots (swap dots m (partner (t .width) m o)) ≡ false) d)
+      go false s d = pass-unsuited t reach (sweepOf dots r) m k h s
+      go true s d = pass-declined t reach (sweepOf dots r) m k h s d
 
-  -- where every one failed, none is left to try
-  pub all-failed : ((k : ℕ) → k < count → Test false k) → (n : ℕ) → n ≤ count → left n ≡ left 0
-  all-failed fail zero h = refl
-  all-failed fail (suc n) h =
-      ap left (sym (add-one n)) ∙ test-failed n (omega arith) (fail n (omega arith)) ∙ all-failed fail n (omega arith)
+  -- none before it is taken: what is left is all
+  pub all-failed : (k : ℕ) → k ≤ length (offsets reach) → Failed t reach dots m k
+      → visit t (swapsAfter t reach k) dots r m ≡ visit t (swaps t reach) dots r m
+  all-failed zero h f = refl
+  all-failed (suc k) h f =
+      sym (passed k h (f .each k (le-refl _)))
+      ∙ all-failed k (omega arith) (record { each = λ j l. f .each j (omega arith) })
+
+  -- the partner at cell n is taken
+  pub swap-taken : (k : ℕ) → k < length (offsets reach) → {o : Offset} → offset k ≡ o → takes t dots m o ≡ true
+      → {n : ℕ} → partner (t .width) m o ≡ n
+      → visit t (swapsAfter t reach k) dots r m ≡ more (sweepOf dots r) (swap dots m n)
+  swap-taken k h e l there =
+      let (suited, lower) = and-eq-true-iff _ _ .0 (subst (λ o. takes t dots m o ≡ true) (sym e) l) in
+      taken t reach (sweepOf dots r) m k h suited lower
+      ∙ ap (λ i. more (sweepOf dots r) (swap dots m i)) (ap (partner (t .width) m) e ∙ there)
+
+-- ---- with the offsets as the code holds them
+module _ (t : Target) {reach : ℕ} {downs rights : List ℕ} {count : ℕ} (held : HoldsOffsets reach downs rights count)
+    (dots : List ℕ) (m : ℕ) where
+  -- what a trial that fails shows
+  abbrev Fails : ℕ → Type 0
+  Fails k = takes t dots m (biased (getD downs k 0) (getD rights k 0)) ≡ false
+
+  known : (k : ℕ) → k < count → Fails k → takes t dots m (getD (offsets reach) k (biased 6 6)) ≡ false
+  known k h = subst (λ o. takes t dots m o ≡ false) (sym (held .at k h))
+
+  pub failed-all : ((k : ℕ) → k < count → Fails k) → Failed t reach dots m count
+  failed-all fails = record { each = λ k h. known k h (fails k h) }
+
+  -- one more
+  pub failed-next : (k : ℕ) → k < count → Fails k → Failed t reach dots m k → Failed t reach dots m (k + 1)
+  failed-next k h e f = record { each = λ j l. go j (ℕ-discrete j k) l }
+    where
+      go : (j : ℕ) → Dec (j ≡ k) → j < k + 1 → takes t dots m (getD (offsets reach) j (biased 6 6)) ≡ false
+      go j (yes s) l = rw s (known k h e)
+      go j (no s) l = f .each j (omega arith)
+
+  -- all of them: the scan stays as it is
+  pub failed-still : Failed t reach dots m count → (r : Progress) → visit t (swaps t reach) dots r m ≡ sweepOf dots r
+  failed-still f r =
+      sym (all-failed t reach dots r m count (le-of-eq (held .count-is)) f)
+      ∙ left-none t reach (sweepOf dots r) m count (le-of-eq (sym (held .count-is)))

@@ -1,6 +1,6 @@
 // A swap scan of a judged plate whose kernel is c. A trial is decided by the table in a few operations, and cells where no
 // partner can lower the squared error are passed over. Where psf and gray are not read, they are there for the contract.
-ghost use mathlib.Core.Bool.{_&&_};
+ghost use mathlib.Core.Bool.{true};
 ghost use mathlib.Core.Path.{_≡_};
 ghost use Prim.Native.Nat.{ℕ, _+_, _^_, _≤_, _<_};
 ghost use lib.ListN.{length, getD};
@@ -9,13 +9,12 @@ ghost use Rattle.model.specs.Window.{HoldsKernel};
 ghost use Rattle.model.specs.Refusal.{HalftoneFits};
 ghost use Rattle.model.specs.State.{LaterFits};
 ghost use Rattle.model.specs.Reference.{reference};
-ghost use Rattle.model.specs.Partners.{biased, partner, worthAt, HoldsOffsets, HoldsWorths};
-ghost use Rattle.model.specs.Scan.{suits, Lowers, swaps, swapsAfter, sweepOf, visit, resultOf};
+ghost use Rattle.model.specs.Partners.{biased, worthAt, HoldsOffsets, HoldsWorths};
+ghost use Rattle.model.specs.Scan.{swaps, swapsAfter, visit, sweep, progressOf};
 ghost use Rattle.search_prune.specs.Grid.{GridFits};
-ghost use Rattle.model.specs.Calls.{swapScanned};
-ghost use Rattle.model.specs.Change.{swap, lowers};
+ghost use Rattle.search_swaps.specs.Trials.{takes, Failed};
 use model::Measures;
-use model::ScanResult;
+use model::Progress;
 use model::Stats;
 use search_change::lower_swap;
 use search_offsets::within_reach;
@@ -55,9 +54,7 @@ fn lowering(
     requires { ⌜ worth ≡ worthAt (measures .radius) (now c) down right ⌝ }
     ensures { λ r. ⌜ (let t = targetFor measures (now (psf .entry)) (now (gray .entry)) in
         let m = cellAt (measures .width) (at .row) (at .col) in
-        r ≡ (suits t (now (dots .entry)) m (biased down right)
-        && lowers t (now (dots .entry))
-        (swap (now (dots .entry)) m (partner (measures .width) m (biased down right))))) ⌝ }
+        r ≡ takes t (now (dots .entry)) m (biased down right)) ⌝ }
 {
     let m = at.row * measures.width + at.col;
     let n = partner_cell(measures.width, measures.height, at, down, right);
@@ -92,10 +89,8 @@ fn clear_swaps(
     requires { ⌜ HoldsWorths (measures .radius) (now c) (now downs) (now rights) count (now worths) ⌝ }
     requires { ⌜ (at .row < measures .height) × (at .col < measures .width) ⌝ }
     ensures { λ r. ⌜ (let t = targetFor measures (now (psf .entry)) (now (gray .entry)) in
-        (at .col + r ≤ measures .width) × ((k : ℕ) → k < r → (scan : ScanResult)
-        → visit t (swaps t (measures .reach)) (now (dots .entry)) scan
-        (cellAt (measures .width) (at .row) (at .col) + k)
-        ≡ sweepOf (now (dots .entry)) scan)) ⌝ }
+        (at .col + r ≤ measures .width) × ((k : ℕ) → k < r
+        → Failed t (measures .reach) (now (dots .entry)) (cellAt (measures .width) (at .row) (at .col) + k) count)) ⌝ }
 {
     let m = at.row * measures.width + at.col;
     if m < tested {
@@ -144,10 +139,8 @@ fn first_trial(
     requires { ⌜ GridFits (measures .radius) (now c) (measures .reach) side (now grid) ⌝ }
     requires { ⌜ (at .row < measures .height) × (at .col < measures .width) ⌝ }
     ensures { λ r. ⌜ (let t = targetFor measures (now (psf .entry)) (now (gray .entry)) in
-        let m = cellAt (measures .width) (at .row) (at .col) in
-        (r ≤ count) × ((scan : ScanResult)
-        → visit t (swapsAfter t (measures .reach) r) (now (dots .entry)) scan m
-        ≡ visit t (swaps t (measures .reach)) (now (dots .entry)) scan m)) ⌝ }
+        (r ≤ count)
+        × Failed t (measures .reach) (now (dots .entry)) (cellAt (measures .width) (at .row) (at .col)) r) ⌝ }
 {
     let width = measures.width;
     let height = measures.height;
@@ -168,29 +161,29 @@ fn swap_cell(
     count: usize,
     dots: &mut [u8],
     table: &mut [i32],
-    scan: ScanResult,
+    progress: Progress,
     at: Cell,
     found: usize,
-) -> ScanResult
-    requires { ⌜ LaterFits measures (now psf) (now gray) (now dots) (now table) (scan .stats) ⌝ }
+) -> Progress
+    requires { ⌜ LaterFits measures (now psf) (now gray) (now dots) (now table) (progress .stats) ⌝ }
     requires { ⌜ HoldsKernel (measures .radius) (now psf) (now c) ⌝ }
     requires { ⌜ HoldsOffsets (measures .reach) (now downs) (now rights) count ⌝ }
-    requires { ⌜ (at .row < measures .height) × (at .col < measures .width) × (scan .changes < 2 ^ 63) ⌝ }
-    requires { ⌜ (found ≤ count) × (found < count → Lowers (targetFor measures (now psf) (now gray)) (now dots)
+    requires { ⌜ (at .row < measures .height) × (at .col < measures .width) × (progress .changes < 2 ^ 63) ⌝ }
+    requires { ⌜ (found ≤ count) × (found < count → takes (targetFor measures (now psf) (now gray)) (now dots)
         (cellAt (measures .width) (at .row) (at .col))
-        (biased (getD (now downs) found 0) (getD (now rights) found 0))) ⌝ }
+        (biased (getD (now downs) found 0) (getD (now rights) found 0)) ≡ true) ⌝ }
     ensures { λ r. ⌜ (let t = targetFor measures (now (psf .entry)) (now (gray .entry)) in
-        r ≡ resultOf t (visit t (swapsAfter t (measures .reach) found) (now (dots .entry)) scan
+        r ≡ progressOf t (visit t (swapsAfter t (measures .reach) found) (now (dots .entry)) progress
         (cellAt (measures .width) (at .row) (at .col)))) ⌝ }
     ensures { λ _. ⌜ (let t = targetFor measures (now (psf .entry)) (now (gray .entry)) in
-        now (dots .exit) ≡ visit t (swapsAfter t (measures .reach) found) (now (dots .entry)) scan
+        now (dots .exit) ≡ visit t (swapsAfter t (measures .reach) found) (now (dots .entry)) progress
         (cellAt (measures .width) (at .row) (at .col)) .after .dots) ⌝ }
     ensures { λ _. ⌜ (let t = targetFor measures (now (psf .entry)) (now (gray .entry)) in
-        now (table .exit) ≡ filteredErrors t (visit t (swapsAfter t (measures .reach) found) (now (dots .entry)) scan
-        (cellAt (measures .width) (at .row) (at .col)) .after .dots)) ⌝ }
+        now (table .exit) ≡ filteredErrors t (visit t (swapsAfter t (measures .reach) found) (now (dots .entry))
+        progress (cellAt (measures .width) (at .row) (at .col)) .after .dots)) ⌝ }
 {
     if count <= found {
-        return scan;
+        return progress;
     }
     let row2 = at.row + downs[found] as usize - 6;
     let col2 = at.col + rights[found] as usize - 6;
@@ -213,16 +206,16 @@ fn swap_cell(
         c,
         dots,
         table,
-        scan.stats,
+        progress.stats,
         at.row,
         at.col,
         row2,
         col2,
         delta,
     );
-    ScanResult {
+    Progress {
         stats: stats,
-        changes: scan.changes + 1,
+        changes: progress.changes + 1,
     }
 }
 
@@ -242,21 +235,21 @@ fn swap_by(
     dots: &mut [u8],
     table: &mut [i32],
     stats: Stats,
-) -> ScanResult
+) -> Progress
     requires { ⌜ LaterFits measures (now psf) (now gray) (now dots) (now table) stats ⌝ }
     requires { ⌜ HoldsKernel (measures .radius) (now psf) (now c) ⌝ }
     requires { ⌜ HoldsOffsets (measures .reach) (now downs) (now rights) count ⌝ }
     requires { ⌜ HoldsWorths (measures .radius) (now c) (now downs) (now rights) count (now worths) ⌝ }
     requires { ⌜ GridFits (measures .radius) (now c) (measures .reach) side (now grid) ⌝ }
-    ensures { λ r. ⌜ r ≡ swapScanned measures (now (psf .entry)) (now (gray .entry))
-        (reference (now (dots .entry)) stats) .answer ⌝ }
-    ensures { λ _. ⌜ now (dots .exit) ≡ swapScanned measures (now (psf .entry)) (now (gray .entry))
-        (reference (now (dots .entry)) stats) .after .dots ⌝ }
-    ensures { λ _. ⌜ now (table .exit) ≡ filteredErrors (targetFor measures (now (psf .entry)) (now (gray .entry)))
-        (swapScanned measures (now (psf .entry)) (now (gray .entry))
-        (reference (now (dots .entry)) stats) .after .dots) ⌝ }
+    ensures { λ r. ⌜ (let t = targetFor measures (now (psf .entry)) (now (gray .entry)) in
+        r ≡ progressOf t (sweep t (swaps t (measures .reach)) (reference (now (dots .entry)) stats))) ⌝ }
+    ensures { λ _. ⌜ (let t = targetFor measures (now (psf .entry)) (now (gray .entry)) in
+        now (dots .exit) ≡ sweep t (swaps t (measures .reach)) (reference (now (dots .entry)) stats) .after .dots) ⌝ }
+    ensures { λ _. ⌜ (let t = targetFor measures (now (psf .entry)) (now (gray .entry)) in
+        now (table .exit) ≡ filteredErrors t
+        (sweep t (swaps t (measures .reach)) (reference (now (dots .entry)) stats) .after .dots)) ⌝ }
 {
-    let mut scan = ScanResult {
+    let mut progress = Progress {
         stats: stats,
         changes: 0,
     };
@@ -315,7 +308,7 @@ fn swap_by(
                 }
                 k += 1;
             };
-            scan = swap_cell(
+            progress = swap_cell(
                 measures,
                 psf,
                 gray,
@@ -325,17 +318,17 @@ fn swap_by(
                 count,
                 dots,
                 table,
-                scan,
+                progress,
                 at,
                 found,
             );
             at = next(measures.width, at);
         }
     }
-    scan
+    progress
 }
 
-// A swap scan.
+// A swap scan: what it has come to at its end.
 pub fn swap_all(
     measures: Measures,
     psf: &[u8],
@@ -344,16 +337,16 @@ pub fn swap_all(
     dots: &mut [u8],
     table: &mut [i32],
     stats: Stats,
-) -> ScanResult
+) -> Progress
     requires { ⌜ LaterFits measures (now psf) (now gray) (now dots) (now table) stats ⌝ }
     requires { ⌜ HoldsKernel (measures .radius) (now psf) (now c) ⌝ }
-    ensures { λ r. ⌜ r ≡ swapScanned measures (now (psf .entry)) (now (gray .entry))
-        (reference (now (dots .entry)) stats) .answer ⌝ }
-    ensures { λ _. ⌜ now (dots .exit) ≡ swapScanned measures (now (psf .entry)) (now (gray .entry))
-        (reference (now (dots .entry)) stats) .after .dots ⌝ }
-    ensures { λ _. ⌜ now (table .exit) ≡ filteredErrors (targetFor measures (now (psf .entry)) (now (gray .entry)))
-        (swapScanned measures (now (psf .entry)) (now (gray .entry))
-        (reference (now (dots .entry)) stats) .after .dots) ⌝ }
+    ensures { λ r. ⌜ (let t = targetFor measures (now (psf .entry)) (now (gray .entry)) in
+        r ≡ progressOf t (sweep t (swaps t (measures .reach)) (reference (now (dots .entry)) stats))) ⌝ }
+    ensures { λ _. ⌜ (let t = targetFor measures (now (psf .entry)) (now (gray .entry)) in
+        now (dots .exit) ≡ sweep t (swaps t (measures .reach)) (reference (now (dots .entry)) stats) .after .dots) ⌝ }
+    ensures { λ _. ⌜ (let t = targetFor measures (now (psf .entry)) (now (gray .entry)) in
+        now (table .exit) ≡ filteredErrors t
+        (sweep t (swaps t (measures .reach)) (reference (now (dots .entry)) stats) .after .dots)) ⌝ }
 {
     let mut downs = [0u8; 168];
     let mut rights = [0u8; 168];

@@ -4,38 +4,35 @@
 --   swaps-over, swap-accepted         a swap scan, from the j-th offset on
 use mathlib.Core.Bool.{true, false}
 use mathlib.Core.List.{List, []}
-use mathlib.Core.Path.{_≡_, refl, sym, _∙_, ap, subst, ap₂}
-use Prim.Native.Nat.{ℕ, _+_, _≤_, _<_}
+use mathlib.Core.Path.{_≡_, refl, _∙_, ap, ap₂}
+use Prim.Native.Nat.{ℕ, _+_}
 use native.Mathlib.Numerals.{add-one}
 use lib.IntN.{ℤ}
-use lib.ListN.{length, getD}
 use Rattle.model.specs.declared.Measures.{Measures}
 use Rattle.model.specs.declared.Stats.{Stats}
-use Rattle.model.specs.declared.ScanResult.{ScanResult}
+use Rattle.model.specs.declared.Progress.{Progress}
 use Rattle.model.specs.Basic.{pick}
 use Rattle.model.specs.Error.{Target, targetFor, filteredErrors}
 use Rattle.model.specs.Reference.{reference, accept, statsOf}
-use Rattle.model.specs.Partners.{Offset, offsets, biased, partner}
 use Rattle.model.specs.State.{LaterFits}
-use Rattle.model.specs.Scan.{toggles, swapsAfter, Sweep, sweepOf, Lowers, tryEach, visit, resultOf}
-use Rattle.model.specs.Change.{Move, toggle, swap, lowers}
+use Rattle.model.specs.Scan.{toggles, Sweep, sweepOf, tryEach, visit, progressOf}
+use Rattle.model.specs.Change.{Move, toggle, lowers}
 use Rattle.model.proofs.Attempts.{entry-stats}
 use Rattle.model.proofs.Scan.{more, try-none, try-step}
-use Rattle.model.proofs.Loop.{left-none, taken}
 
-module _ (m : Measures) (psf gray dots : List ℕ) (r : ScanResult) where
+module _ (m : Measures) (psf gray dots : List ℕ) (r : Progress) where
   abbrev t : Target
   t = targetFor m psf gray
 
-  -- the result, the dots and the table are those of the reference
-  abbrev Leaves : ScanResult → List ℕ → List ℤ → Sweep → Type 0
+  -- what the scan has come to, the dots and the table are those of the reference
+  abbrev Leaves : Progress → List ℕ → List ℤ → Sweep → Type 0
   Leaves r′ dots′ table′ s =
-      (r′ ≡ resultOf t s) × ((dots′ ≡ s .after .dots) × (table′ ≡ filteredErrors t (s .after .dots)))
+      (r′ ≡ progressOf t s) × ((dots′ ≡ s .after .dots) × (table′ ≡ filteredErrors t (s .after .dots)))
 
   -- nothing is accepted
   pub visit-none : {table : List ℤ} → LaterFits m psf gray dots table (r .stats)
       → {s : Sweep} → s ≡ sweepOf dots r → Leaves r dots table s
-  unfolding resultOf
+  unfolding progressOf
   visit-none {table} f e =
       rw e (
         λ i. record { stats = entry-stats m psf gray dots table (r .stats) f i; changes = r .changes },
@@ -49,11 +46,11 @@ module _ (m : Measures) (psf gray dots : List ℕ) (r : ScanResult) where
       → dots′ ≡ accept (reference dots (r .stats)) v .dots
       → table′ ≡ filteredErrors t (accept (reference dots (r .stats)) v .dots)
       → Leaves (record { stats = stats′; changes = r .changes + 1 }) dots′ table′ s
-  unfolding resultOf
+  unfolding progressOf
   visit-one v e g k l = rw e (λ i. record { stats = g i; changes = add-one (r .changes) i }, (k, l))
 
 -- ---- a toggle scan at cell n
-module _ (t : Target) (dots : List ℕ) (r : ScanResult) (n : ℕ) where
+module _ (t : Target) (dots : List ℕ) (r : Progress) (n : ℕ) where
   pub toggle-declined : lowers t dots (toggle dots n) ≡ false → visit t (toggles t) dots r n ≡ sweepOf dots r
   unfolding toggles
   toggle-declined e =
@@ -66,21 +63,3 @@ module _ (t : Target) (dots : List ℕ) (r : ScanResult) (n : ℕ) where
   toggle-accepted e =
       try-step t (sweepOf dots r) (toggle dots n) []
       ∙ ap (λ b. pick b (more (sweepOf dots r) (toggle dots n)) (tryEach t (sweepOf dots r) [])) e
-
--- ---- a swap scan at cell n, from the j-th offset on
-module _ (t : Target) (reach : ℕ) (dots : List ℕ) (r : ScanResult) (n j : ℕ) where
-  abbrev visited : Sweep
-  visited = visit t (swapsAfter t reach j) dots r n
-
-  -- none is left
-  pub swaps-over : length (offsets reach) ≤ j → visited ≡ sweepOf dots r
-  swaps-over = left-none t reach (sweepOf dots r) n j
-
-  -- the swap with the cell k at that offset is accepted
-  pub swap-accepted : j < length (offsets reach) → {o : Offset} → getD (offsets reach) j (biased 6 6) ≡ o
-      → Lowers t dots n o → {k : ℕ} → partner (t .width) n o ≡ k
-      → visited ≡ more (sweepOf dots r) (swap dots n k)
-  swap-accepted h {o} e l there =
-      let first : Lowers t dots n (getD (offsets reach) j (biased 6 6)) = subst (Lowers t dots n) (sym e) l in
-      taken t reach (sweepOf dots r) n j h (first .suited) (first .lower)
-      ∙ ap (λ i. more (sweepOf dots r) (swap dots n i)) (ap (partner (t .width) n) e ∙ there)

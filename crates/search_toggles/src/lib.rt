@@ -9,11 +9,10 @@ ghost use Rattle.model.specs.Window.{HoldsKernel};
 ghost use Rattle.model.specs.Refusal.{HalftoneFits};
 ghost use Rattle.model.specs.State.{LaterFits};
 ghost use Rattle.model.specs.Reference.{reference};
-ghost use Rattle.model.specs.Scan.{toggles, visit, resultOf};
-ghost use Rattle.model.specs.Calls.{toggleScanned};
+ghost use Rattle.model.specs.Scan.{toggles, visit, sweep, progressOf};
 ghost use Rattle.model.specs.Change.{toggle, lowers};
 use model::Measures;
-use model::ScanResult;
+use model::Progress;
 use model::Stats;
 use search_change::lowers as is_lower;
 use search_change::peak;
@@ -38,19 +37,20 @@ fn toggle_cell(
     c: &[i32],
     dots: &mut [u8],
     table: &mut [i32],
-    scan: ScanResult,
+    progress: Progress,
     at: Cell,
-) -> ScanResult
-    requires { ⌜ LaterFits measures (now psf) (now gray) (now dots) (now table) (scan .stats) ⌝ }
+) -> Progress
+    requires { ⌜ LaterFits measures (now psf) (now gray) (now dots) (now table) (progress .stats) ⌝ }
     requires { ⌜ HoldsKernel (measures .radius) (now psf) (now c) ⌝ }
-    requires { ⌜ (at .row < measures .height) × (at .col < measures .width) × (scan .changes < 2 ^ 63) ⌝ }
+    requires { ⌜ (at .row < measures .height) × (at .col < measures .width) × (progress .changes < 2 ^ 63) ⌝ }
     ensures { λ r. ⌜ (let t = targetFor measures (now (psf .entry)) (now (gray .entry)) in
-        r ≡ resultOf t (visit t (toggles t) (now (dots .entry)) scan (cellAt (measures .width) (at .row) (at .col)))) ⌝ }
+        r ≡ progressOf t (visit t (toggles t) (now (dots .entry)) progress
+        (cellAt (measures .width) (at .row) (at .col)))) ⌝ }
     ensures { λ _. ⌜ (let t = targetFor measures (now (psf .entry)) (now (gray .entry)) in
-        now (dots .exit) ≡ visit t (toggles t) (now (dots .entry)) scan (cellAt (measures .width) (at .row) (at .col))
-        .after .dots) ⌝ }
+        now (dots .exit) ≡ visit t (toggles t) (now (dots .entry)) progress
+        (cellAt (measures .width) (at .row) (at .col)) .after .dots) ⌝ }
     ensures { λ _. ⌜ (let t = targetFor measures (now (psf .entry)) (now (gray .entry)) in
-        now (table .exit) ≡ filteredErrors t (visit t (toggles t) (now (dots .entry)) scan
+        now (table .exit) ≡ filteredErrors t (visit t (toggles t) (now (dots .entry)) progress
         (cellAt (measures .width) (at .row) (at .col)) .after .dots)) ⌝ }
 {
     let m = at.row * measures.width + at.col;
@@ -63,17 +63,17 @@ fn toggle_cell(
             c,
             dots,
             table,
-            scan.stats,
+            progress.stats,
             at.row,
             at.col,
             delta,
         );
-        return ScanResult {
+        return Progress {
             stats: stats,
-            changes: scan.changes + 1,
+            changes: progress.changes + 1,
         };
     }
-    scan
+    progress
 }
 
 // How many cells from here on can be passed over, a toggle being accepted at none: a run of up to 16 in this row, or 0
@@ -119,7 +119,7 @@ pub fn run_end(width: usize, at: Cell, tested: usize) -> usize
     m + least(16, width - at.col)
 }
 
-// A toggle scan.
+// A toggle scan: what it has come to at its end.
 pub fn toggle_all(
     measures: Measures,
     psf: &[u8],
@@ -128,18 +128,18 @@ pub fn toggle_all(
     dots: &mut [u8],
     table: &mut [i32],
     stats: Stats,
-) -> ScanResult
+) -> Progress
     requires { ⌜ LaterFits measures (now psf) (now gray) (now dots) (now table) stats ⌝ }
     requires { ⌜ HoldsKernel (measures .radius) (now psf) (now c) ⌝ }
-    ensures { λ r. ⌜ r ≡ toggleScanned measures (now (psf .entry)) (now (gray .entry))
-        (reference (now (dots .entry)) stats) .answer ⌝ }
-    ensures { λ _. ⌜ now (dots .exit) ≡ toggleScanned measures (now (psf .entry)) (now (gray .entry))
-        (reference (now (dots .entry)) stats) .after .dots ⌝ }
-    ensures { λ _. ⌜ now (table .exit) ≡ filteredErrors (targetFor measures (now (psf .entry)) (now (gray .entry)))
-        (toggleScanned measures (now (psf .entry)) (now (gray .entry))
-        (reference (now (dots .entry)) stats) .after .dots) ⌝ }
+    ensures { λ r. ⌜ (let t = targetFor measures (now (psf .entry)) (now (gray .entry)) in
+        r ≡ progressOf t (sweep t (toggles t) (reference (now (dots .entry)) stats))) ⌝ }
+    ensures { λ _. ⌜ (let t = targetFor measures (now (psf .entry)) (now (gray .entry)) in
+        now (dots .exit) ≡ sweep t (toggles t) (reference (now (dots .entry)) stats) .after .dots) ⌝ }
+    ensures { λ _. ⌜ (let t = targetFor measures (now (psf .entry)) (now (gray .entry)) in
+        now (table .exit) ≡ filteredErrors t
+        (sweep t (toggles t) (reference (now (dots .entry)) stats) .after .dots)) ⌝ }
 {
-    let mut scan = ScanResult {
+    let mut progress = Progress {
         stats: stats,
         changes: 0,
     };
@@ -151,9 +151,9 @@ pub fn toggle_all(
             cell = ahead(measures.width, cell, n);
         } else {
             tested = run_end(measures.width, cell, tested);
-            scan = toggle_cell(measures, psf, gray, c, dots, table, scan, cell);
+            progress = toggle_cell(measures, psf, gray, c, dots, table, progress, cell);
             cell = next(measures.width, cell);
         }
     }
-    scan
+    progress
 }

@@ -1,6 +1,7 @@
 -- `search::swap_scan` meets its contract: refused with the judge's number, or the reference's swap scan.
 use mathlib.Core.Path.{_≡_, sym, _∙_, ap}
 use borrow.Author.Needs.{needs}
+use Rattle.model.specs.Scan.{scan, resultOf}
 use Rattle.model.specs.State.{LaterFits, laterRefusal}
 use Rattle.model.specs.Calls.{result, laterCall, swapScanCall}
 use Rattle.model.proofs.Calls.{both-refused, both-done}
@@ -45,6 +46,9 @@ swap-all-requires c κs =
     let k = c .before .before .before in
     (fits (k .before), k .kernel .ensures)
 
+result-of-requires : tie.Need-result-of-requires
+result-of-requires c κs = search needs
+
 same-length-3 : tie.Need-same-length-3
 same-length-3 c = search needs
 
@@ -52,12 +56,12 @@ same-length-4 : tie.Need-same-length-4
 same-length-4 c = search needs
 
 returns-2 : tie.Need-returns-2
-unfolding swapScanCall laterCall
+unfolding swapScanCall laterCall scan
 returns-2 c =
-    let k = c .before .before .before in
+    let k = c .before .before .before .before in
     let e = k .before .before .before .before .before in
     let (reply, left) = both-done _ _ _ _ (taken e) (k .swap-all .ensures .1 .0) (k .swap-all .ensures .1 .1) in
-    (ap result (k .swap-all .ensures .0) ∙ reply, left)
+    (ap result (c .result-of .ensures ∙ ap resultOf (k .swap-all .ensures .0)) ∙ reply, left)
 
 pub swap-scan-spec : {M : Type 1} → statement M
 swap-scan-spec =
@@ -70,6 +74,7 @@ swap-scan-spec =
     kernel-requires
     slice-aggregate-swap-all
     swap-all-requires
+    result-of-requires
     same-length-3
     same-length-4
     returns-2)

@@ -14,7 +14,7 @@ use Rattle.model.specs.Refusal.{HalftoneFits}
 use Rattle.search_partners.proofs.Worths.{worth-small}
 use Rattle.search_trial.proofs.Weighed.{table-small}
 use Rattle.filter_window.proofs.Rows.{index-fits}
-use Rattle.search_swaps.proofs.Clear.{run-still}
+use Rattle.search_swaps.proofs.Clear.{run-failed}
 use Rattle.search_swaps.proofs.clear_swaps.Statement.{statement}
 use Rattle.search_swaps.proofs.clear_swaps.Tie as tie
 
@@ -107,7 +107,7 @@ returns-3 : tie.Need-returns-3
 returns-3 c =
     let p = c .before .before in (
       short p,
-      run-still _ _ _ _ _ _ _ (fits (k p)) _ (a p .pre .1 .1 .0) _ _ (on-it (k p) .0) (a p .pre .1 .0)
+      run-failed _ _ _ _ _ _ _ (fits (k p)) _ (a p .pre .1 .1 .0) _ _ (on-it (k p) .0) (a p .pre .1 .0)
           (a p .pre .1 .1 .1 .0) (a p .pre .1 .1 .1 .1 .0) (short p) (c .before .swaps-clear .ensures (c .if3 .taken)),
     )
 

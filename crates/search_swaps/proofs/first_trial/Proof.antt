@@ -1,16 +1,14 @@
--- `search_swaps::first_trial` meets its contract: from the first offset on all is tried, and where the rows in reach are clear
--- every trial fails.
+-- `search_swaps::first_trial` meets its contract: from the first offset on all is tried, and where the rows in reach
+-- are clear every trial fails.
 use mathlib.Core.Path.{sym, subst}
 use Prim.Native.Nat.{_≤_}
-use native.Mathlib.Nat.{le-refl}
+use native.Mathlib.Nat.{le-refl, not-suc-le-zero}
 use native.Mathlib.Omega.{arith}
-use borrow.Author.Needs.{needs}
 use lib.IntN.{ℤ, natAbs}
 use Rattle.model.specs.Basic.{AtMost}
-use Rattle.model.specs.Error.{targetFor, cellAt}
 use Rattle.search_prune.proofs.Grid.{worth-in-small}
 use Rattle.search_trial.proofs.Weighed.{table-small}
-use Rattle.search_swaps.proofs.Trials.{all-failed}
+use Rattle.search_swaps.proofs.Trials.{failed-all}
 use Rattle.search_swaps.proofs.Clear.{offset-near, none-lowers}
 use Rattle.search_swaps.proofs.first_trial.Statement.{statement}
 use Rattle.search_swaps.proofs.first_trial.Tie as tie
@@ -39,7 +37,7 @@ may-lower-requires c κs =
     )
 
 returns : tie.Need-returns
-returns c = search needs
+returns c = (omega arith, record { each = λ j h. absurd (not-suc-le-zero h) })
 
 returns-2 : tie.Need-returns-2
 returns-2 c =
@@ -50,12 +48,10 @@ returns-2 c =
     let (vertical, across) = s .pre .1 .1 .1 .1 .1 in
     let clear = a .may-lower .ensures (c .if1 .left) in (
       le-refl _,
-      λ scan. all-failed (targetFor (s .args .measures) (s .args .psf .now) (s .args .gray .now)) held (s .args .dots .now)
-          scan (cellAt (s .args .measures .width) (s .args .at .row) (s .args .at .col))
-          (λ k h.
+      failed-all _ held _ _ (λ k h.
           let (y, x) = offset-near held (g .near) k h in
-          none-lowers _ _ _ _ _ _ _ (s .pre .0) _ (s .pre .1 .1 .0) _ _ vertical across (s .pre .1 .0) _ _ _ g clear _ _ y x)
-          (s .args .count) (le-refl _),
+          none-lowers _ _ _ _ _ _ _ (s .pre .0) _ (s .pre .1 .1 .0) _ _ vertical across (s .pre .1 .0) _ _ _ g clear _ _
+          y x),
     )
 
 pub first-trial-spec : {M : Type 1} → statement M

@@ -1,8 +1,9 @@
--- `search_swaps::swap_by` meets its contract: at each cell the partners are tried in order, and the first that lowers E is the
--- one that a scan accepts there.
+-- `search_swaps::swap_by` meets its contract: at each cell the partners are tried in order, and the first that lowers E
+-- is the one that a scan accepts there.
+use mathlib.Core.Bool.{true}
 use mathlib.Core.Logic.{_⊎_, inl, inr}
 use mathlib.Core.Path.{_≡_, sym, _∙_, ap, subst}
-use Prim.Native.Nat.{ℕ, _*_, _-_, _≤_, _<_}
+use Prim.Native.Nat.{ℕ, _+_, _*_, _-_, _≤_, _<_}
 use native.Mathlib.Omega.{arith}
 use lib.Dec.{lit<}
 use lib.IntN.{ℤ, pos, natAbs}
@@ -14,14 +15,15 @@ use Rattle.algebra.proofs.Grid.{cell<, rows-apart}
 use Rattle.model.specs.Error.{Target, targetFor, cellAt, filteredErrors}
 use Rattle.model.specs.Reference.{reference}
 use Rattle.model.specs.State.{LaterFits}
-use Rattle.model.specs.Scan.{Sweep, swaps, swapsAfter, Lowers, visit, resultOf}
+use Rattle.model.specs.Scan.{Sweep, swaps, swapsAfter, visit, progressOf}
 use Rattle.model.specs.Partners.{biased, worthAt}
 use Rattle.model.proofs.Scan.{swaps-lawful}
 use Rattle.model.proofs.Attempts.{Sound, entry-sound}
 use Rattle.search_partners.proofs.Worths.{worth-small}
 use Rattle.search_toggles.proofs.Under.{Under, under-start, under-fits, under-few, under-next, under-at, under-end}
 use Rattle.search_toggles.proofs.Under.{under-skip, cells-done}
-use Rattle.search_swaps.proofs.Trials.{test-passed, test-failed}
+use Rattle.search_swaps.proofs.Trials.{all-failed, failed-next, failed-still}
+use Rattle.search_swaps.specs.Trials.{takes, Failed}
 use Rattle.search_swaps.proofs.swap_by.Statement.{statement}
 use Rattle.search_swaps.proofs.swap_by.Tie as tie
 
@@ -31,25 +33,23 @@ either (inl a) f g = f a
 either (inr b) f g = g b
 
 abbrev Inv-partners : tie.InvT-partners
-Inv-partners measures psf gray c downs rights worths count side grid dots table scan at tested n k₀ k =
+Inv-partners measures psf gray c downs rights worths count side grid dots table progress at tested n k₀ k =
     (k ≤ count)
-    × (let t = targetFor measures psf gray in
-    let m = cellAt (measures .width) (at .row) (at .col) in
-    visit t (swapsAfter t (measures .reach) k) dots scan m ≡ visit t (swaps t (measures .reach)) dots scan m)
+    × Failed (targetFor measures psf gray) (measures .reach) dots (cellAt (measures .width) (at .row) (at .col)) k
 
 abbrev μ-partners : tie.MeasureT-partners
-μ-partners measures psf gray c downs rights worths count side grid dots table scan at tested n k₀ k = count - k
+μ-partners measures psf gray c downs rights worths count side grid dots table progress at tested n k₀ k = count - k
 
 abbrev Inv-loop : tie.InvT-loop
-Inv-loop measures psf gray c downs rights worths count side grid dots₀ table₀ scan₀ at₀ tested₀ dots table scan at
-    tested =
+Inv-loop measures psf gray c downs rights worths count side grid dots₀ table₀ progress₀ at₀ tested₀ dots table
+    progress at tested =
     Under measures psf gray (swaps (targetFor measures psf gray) (measures .reach))
-    (reference dots₀ (scan₀ .stats)) (cellAt (measures .width) (at .row) (at .col)) dots table scan
+    (reference dots₀ (progress₀ .stats)) (cellAt (measures .width) (at .row) (at .col)) dots table progress
     × (at .col < measures .width)
     × (cellAt (measures .width) (at .row) (at .col) ≤ measures .height * measures .width)
 
 abbrev μ-loop : tie.MeasureT-loop
-μ-loop measures psf gray c downs rights worths count side grid dots₀ table₀ scan₀ at₀ tested₀ dots table scan at
+μ-loop measures psf gray c downs rights worths count side grid dots₀ table₀ progress₀ at₀ tested₀ dots table progress at
     tested =
     measures .height * measures .width - cellAt (measures .width) (at .row) (at .col)
 
@@ -78,7 +78,7 @@ module _ (l : tie.At-loop Inv-partners μ-partners Inv-loop μ-loop) where
   sound = entry-sound _ _ _ (s .args .dots .now) (s .args .table .now) (s .args .stats) (s .pre .0)
 
   fits : LaterFits (s .args .measures) (s .args .psf .now) (s .args .gray .now) (l .loop .dots) (l .loop .table)
-      (l .loop .scan .stats)
+      (l .loop .progress .stats)
   fits = under-fits (l .loop .inv .0) (swaps-lawful t (s .args .measures .reach)) sound (l .loop .inv .2)
 
 -- a cell on the plate
@@ -123,7 +123,8 @@ loop-again c =
     let v = a .before .before .before in
     let l = here v in (
       under-at (under-skip (m l) (a .clear-swaps .result) (l .loop .inv .0) (fits l)
-          (λ i h. a .clear-swaps .ensures .1 i h (l .loop .scan)))
+          (λ i h. failed-still (t l) (s l .pre .1 .1 .0) (l .loop .dots) (m l + i) (a .clear-swaps .ensures .1 i h)
+          (l .loop .progress)))
           (sym (c .ahead .ensures .0)),
       c .ahead .ensures .1,
       omega (
@@ -154,17 +155,18 @@ first-trial-requires c κs =
     )
 
 partners-holds : tie.Need-partners-holds Inv-partners μ-partners Inv-loop μ-loop
-partners-holds c =
-    let l = c .before .before .before .before .before .before .before .before .before .before .before in
-    (c .first-trial .ensures .0, c .first-trial .ensures .1 (l .loop .scan))
+partners-holds c = c .first-trial .ensures
 
 -- before a trial
 module _ (a : tie.Else3 Inv-partners μ-partners Inv-loop μ-loop) where
   abbrev k : ℕ
   k = a .before .partners .k
 
+  abbrev v2 : tie.Then1 Inv-partners μ-partners Inv-loop μ-loop
+  v2 = a .before .before .before .before .before .before .before .before .before .before
+
   abbrev l2 : tie.At-loop Inv-partners μ-partners Inv-loop μ-loop
-  l2 = a .before .before .before .before .before .before .before .before .before .before .before .before .before
+  l2 = here v2
 
   short : k < s l2 .args .count
   short = omega (arith, a .if3 .left)
@@ -215,7 +217,7 @@ lowering-requires c κs =
         (
           s l .pre .1 .0,
           (
-            (a .before .before .before .before .before .before .before .before .before .before .if1 .taken, l .loop .inv .1),
+            (v2 a .if1 .taken, l .loop .inv .1),
             worth-is a,
           ),
         ),
@@ -236,20 +238,23 @@ partners-again c =
     let a = low .before .before .before .before .before .before in
     let l = l2 a in (
       omega (arith, short a),
-      test-failed (t l) (s l .pre .1 .1 .0) (l .loop .dots) (l .loop .scan) (m l) (k a) (short a)
-          (sym (low .lowering .ensures) ∙ c .if4 .left)
-          ∙ a .before .partners .inv .1,
+      failed-next (t l) (s l .pre .1 .1 .0) (l .loop .dots) (m l) (k a) (short a)
+          (sym (low .lowering .ensures) ∙ c .if4 .left) (a .before .partners .inv .1),
     )
 
 -- the partner found, if one was
 module _ (j : tie.Joined3 Inv-partners μ-partners Inv-loop μ-loop) where
+  abbrev v3 : tie.Then1 Inv-partners μ-partners Inv-loop μ-loop
+  v3 = j .before .before .before .before .before .before .before .before .before .before
+
   abbrev l3 : tie.At-loop Inv-partners μ-partners Inv-loop μ-loop
-  l3 = j .before .before .before .before .before .before .before .before .before .before .before .before .before
+  l3 = here v3
 
   ends : (j .if3 .found ≤ s l3 .args .count)
       × (j .if3 .found < s l3 .args .count
-      → Lowers (t l3) (l3 .loop .dots) (m l3)
-      (biased (getD (s l3 .args .downs .now) (j .if3 .found) 0) (getD (s l3 .args .rights .now) (j .if3 .found) 0)))
+      → takes (t l3) (l3 .loop .dots) (m l3)
+      (biased (getD (s l3 .args .downs .now) (j .if3 .found) 0) (getD (s l3 .args .rights .now) (j .if3 .found) 0))
+      ≡ true)
       × (j .if3 .found ≡ j .before .partners .k)
   ends =
       either (j .if3 .came)
@@ -258,22 +263,21 @@ module _ (j : tie.Joined3 Inv-partners μ-partners Inv-loop μ-loop) where
       let e = w .8 in (
         omega (arith, e, j .before .partners .inv .0),
         λ h. subst (λ n.
-            Lowers (t l3) (l3 .loop .dots) (m l3)
-            (biased (getD (s l3 .args .downs .now) n 0) (getD (s l3 .args .rights .now) n 0))) (sym e)
-            (test-passed (t l3) (s l3 .pre .1 .1 .0) (l3 .loop .dots) (l3 .loop .scan) (m l3) (j .before .partners .k)
-            (sym (w .6 .ensures) ∙ w .7 .taken)),
+            takes (t l3) (l3 .loop .dots) (m l3)
+            (biased (getD (s l3 .args .downs .now) n 0) (getD (s l3 .args .rights .now) n 0)) ≡ true) (sym e)
+            (sym (w .6 .ensures) ∙ w .7 .taken),
         e,
       ))
 
-  -- and with it all of the cell's attempts
-  all : visit (t l3) (swapsAfter (t l3) (s l3 .args .measures .reach) (j .if3 .found)) (l3 .loop .dots) (l3 .loop .scan)
-      (m l3)
-      ≡ visit (t l3) (swaps (t l3) (s l3 .args .measures .reach)) (l3 .loop .dots) (l3 .loop .scan) (m l3)
+  -- no partner before it is taken, so what is left is all of the cell's attempts
+  all : visit (t l3) (swapsAfter (t l3) (s l3 .args .measures .reach) (j .if3 .found)) (l3 .loop .dots)
+      (l3 .loop .progress) (m l3)
+      ≡ visit (t l3) (swaps (t l3) (s l3 .args .measures .reach)) (l3 .loop .dots) (l3 .loop .progress) (m l3)
   all =
-      ap (λ n.
-      visit (t l3) (swapsAfter (t l3) (s l3 .args .measures .reach) n) (l3 .loop .dots) (l3 .loop .scan) (m l3))
-      (ends .2)
-      ∙ j .before .partners .inv .1
+      all-failed (t l3) (s l3 .args .measures .reach) (l3 .loop .dots) (l3 .loop .progress) (m l3) (j .if3 .found)
+      (subst (λ n. j .if3 .found ≤ n) (s l3 .pre .1 .1 .0 .count-is) (ends .0))
+      (subst (Failed (t l3) (s l3 .args .measures .reach) (l3 .loop .dots) (m l3)) (sym (ends .2))
+      (j .before .partners .inv .1))
 
 swap-cell-requires : tie.Need-swap-cell-requires Inv-partners μ-partners Inv-loop μ-loop
 swap-cell-requires c κs =
@@ -286,7 +290,7 @@ swap-cell-requires c κs =
           s l .pre .1 .1 .0,
           (
             (
-              j .before .before .before .before .before .before .before .before .before .before .if1 .taken,
+              v3 j .if1 .taken,
               l .loop .inv .1,
               under-few (l .loop .inv .0) (swaps-lawful (t l) (s l .args .measures .reach)) (sound l) (l .loop .inv .2),
             ),
@@ -299,25 +303,24 @@ swap-cell-requires c κs =
 next-requires : tie.Need-next-requires Inv-partners μ-partners Inv-loop μ-loop
 next-requires c κs =
     let j = c .before .before .before .before .before .before in
-    let f = fits (l3 j) .plate .halftone in
-    (omega (arith, j .before .before .before .before .before .before .before .before .before .before .if1 .taken, f .high .1), l3 j .loop .inv .1, f .wide .1)
+    (low (v3 j), l3 j .loop .inv .1, fits (l3 j) .plate .halftone .wide .1)
 
 loop-less-2 : tie.Need-loop-less-2 Inv-partners μ-partners Inv-loop μ-loop
 loop-less-2 c =
     let j = c .before .before .before .before .before .before .before in
-    omega (arith, c .next .ensures .0, cell< (j .before .before .before .before .before .before .before .before .before .before .if1 .taken) (l3 j .loop .inv .1))
+    omega (arith, c .next .ensures .0, is-a-cell (v3 j))
 
 loop-again-2 : tie.Need-loop-again-2 Inv-partners μ-partners Inv-loop μ-loop
 loop-again-2 c =
     let call = c .before .before .before .before in
     let j = call .before .before .before in
     let l = l3 j in (
-      under-at (under-next (l .loop .inv .0) (call .swap-cell .ensures .0 ∙ ap (resultOf (t l)) (all j))
+      under-at (under-next (l .loop .inv .0) (call .swap-cell .ensures .0 ∙ ap (progressOf (t l)) (all j))
           (call .swap-cell .ensures .1 .0 ∙ ap (λ (x : Sweep). x .after .dots) (all j))
           (call .swap-cell .ensures .1 .1 ∙ ap (λ (x : Sweep). filteredErrors (t l) (x .after .dots)) (all j)))
           (sym (c .next .ensures .0)),
       c .next .ensures .1,
-      omega (arith, c .next .ensures .0, cell< (j .before .before .before .before .before .before .before .before .before .before .if1 .taken) (l .loop .inv .1)),
+      omega (arith, c .next .ensures .0, is-a-cell (v3 j)),
     )
 
 same-length : tie.Need-same-length Inv-partners μ-partners Inv-loop μ-loop

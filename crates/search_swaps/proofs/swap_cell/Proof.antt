@@ -1,6 +1,6 @@
--- `search_swaps::swap_cell` meets its contract: the partner found stands on the plate, its dot unlike, and the swap with it is
--- the one that a scan accepts there.
-use mathlib.Core.Bool.{true}
+-- `search_swaps::swap_cell` meets its contract: the partner found stands on the plate, its dot unlike, and the swap with
+-- it is the one that a scan accepts there.
+use mathlib.Core.Bool.{true, and-eq-true-iff}
 use mathlib.Core.Path.{_≡_, sym, _∙_, subst}
 use Prim.Native.Nat.{ℕ, _+_, _-_, _^_, _≤_, _<_}
 use native.Mathlib.Omega.{arith}
@@ -11,17 +11,20 @@ use mir.Syntax.{w64}
 use Rattle.algebra.proofs.Machine.{read-back}
 use Rattle.model.specs.Error.{Target, targetFor, cellAt}
 use Rattle.model.specs.Partners.{HoldsOffsets, biased, lands}
-use Rattle.model.specs.Scan.{Lowers}
+use Rattle.model.specs.Scan.{suits, sweepOf}
 use Rattle.model.specs.State.{LaterFits}
+use Rattle.search_swaps.specs.Trials.{takes}
+use Rattle.search_swaps.proofs.Trials.{swap-taken}
 use Rattle.search_swaps.proofs.Partner.{landed, stands, suits-lands, suits-unlike}
-use Rattle.search_toggles.proofs.Visit.{visit-none, visit-one, swaps-over, swap-accepted}
+use Rattle.model.proofs.Loop.{left-none}
+use Rattle.search_toggles.proofs.Visit.{visit-none, visit-one}
 use Rattle.search_swaps.proofs.swap_cell.Statement.{statement}
 use Rattle.search_swaps.proofs.swap_cell.Tie as tie
 
 -- what is known from the start
 module _ (s : tie.Start) where
   abbrev fits : LaterFits (s .args .measures) (s .args .psf .now) (s .args .gray .now) (s .args .dots .now)
-      (s .args .table .now) (s .args .scan .stats)
+      (s .args .table .now) (s .args .progress .stats)
   fits = s .pre .0
 
   abbrev held : HoldsOffsets (s .args .measures .reach) (s .args .downs .now) (s .args .rights .now) (s .args .count)
@@ -43,7 +46,7 @@ module _ (s : tie.Start) where
   abbrev col : ℕ
   col = s .args .at .col
 
-  abbrev here : (row < h) × (col < w) × (s .args .scan .changes < 2 ^ 63)
+  abbrev here : (row < h) × (col < w) × (s .args .progress .changes < 2 ^ 63)
   here = s .pre .1 .1 .1 .0
 
   -- the offset found
@@ -56,8 +59,9 @@ module _ (s : tie.Start) where
 returns : tie.Need-returns
 returns c =
     let s = c .before .before .before .before .before .before in
-    visit-none _ _ _ _ (s .args .scan) (fits s)
-    (swaps-over (target s) (s .args .measures .reach) _ (s .args .scan) _ (s .args .found)
+    visit-none _ _ _ _ (s .args .progress) (fits s)
+    (left-none (target s) (s .args .measures .reach) (sweepOf (s .args .dots .now) (s .args .progress)) _
+    (s .args .found)
     (subst (λ n. n ≤ s .args .found) (held s .count-is) (c .if1 .taken)))
 
 -- a partner was found: where it stands, and that its dot is unlike
@@ -68,12 +72,14 @@ module _ (a : tie.Else1) where
   near : (down s ≤ 12) × (right s ≤ 12)
   near = held s .near (s .args .found) (a .if1 .left)
 
-  lower : Lowers (targetFor (s .args .measures) (s .args .psf .now) (s .args .gray .now)) (s .args .dots .now)
-      (cellAt (w s) (row s) (col s)) (biased (down s) (right s))
-  lower = s .pre .1 .1 .1 .1 .1 (a .if1 .left)
+  took : takes (target s) (s .args .dots .now) (cellAt (w s) (row s) (col s)) (biased (down s) (right s)) ≡ true
+  took = s .pre .1 .1 .1 .1 .1 (a .if1 .left)
+
+  suited : suits (target s) (s .args .dots .now) (cellAt (w s) (row s) (col s)) (biased (down s) (right s)) ≡ true
+  suited = and-eq-true-iff _ _ .0 took .0
 
   on : lands (w s) (h s) (cellAt (w s) (row s) (col s)) (biased (down s) (right s)) ≡ true
-  on = suits-lands (target s) (row s) (col s) (here s .1) (down s) (right s) (s .args .dots .now) (lower .suited)
+  on = suits-lands (target s) (row s) (col s) (here s .1) (down s) (right s) (s .args .dots .now) suited
 
   abbrev row2 : ℕ
   row2 = row s + down s - 6
@@ -87,7 +93,7 @@ module _ (a : tie.Else1) where
   unlike : getD (s .args .dots .now) (cellAt (w s) (row s) (col s)) 0
       ≡ getD (s .args .dots .now) (cellAt (w s) row2 col2) 0
       → ⊥
-  unlike = suits-unlike (target s) (row s) (col s) (here s .1) (down s) (right s) (s .args .dots .now) (lower .suited)
+  unlike = suits-unlike (target s) (row s) (col s) (here s .1) (down s) (right s) (s .args .dots .now) suited
 
 shared-slice-read-row2 : tie.Need-shared-slice-read-row2
 shared-slice-read-row2 c = search needs
@@ -150,10 +156,10 @@ returns-2 c =
     let a = v .before .before .before .before .before .before .before .before .before .before in
     let k = s a in
     let stood = stands (w k) (h k) (row k) (col k) (here k .1) (down k) (right k) (on a) in
-    visit-one (k .args .measures) _ _ _ (k .args .scan) _
-    (swap-accepted (target k) (k .args .measures .reach) _ (k .args .scan) _ (k .args .found)
+    visit-one (k .args .measures) _ _ _ (k .args .progress) _
+    (swap-taken (target k) (k .args .measures .reach) _ (k .args .progress) _ (k .args .found)
     (subst (λ n. k .args .found < n) (held k .count-is) (a .if1 .left)) (held k .at (k .args .found) (a .if1 .left))
-    (lower a) stood)
+    (took a) stood)
     (v .make-swap .ensures .0) (v .make-swap .ensures .1 .0) (v .make-swap .ensures .1 .1)
 
 pub swap-cell-spec : {M : Type 1} → statement M

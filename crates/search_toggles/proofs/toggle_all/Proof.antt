@@ -19,14 +19,15 @@ use Rattle.search_toggles.proofs.toggle_all.Tie as tie
 
 -- the cells before this one are done
 abbrev Inv-loop : tie.InvT-loop
-Inv-loop measures psf gray c dots₀ table₀ scan₀ cell₀ tested₀ dots table scan cell tested =
+Inv-loop measures psf gray c dots₀ table₀ progress₀ cell₀ tested₀ dots table progress cell tested =
     let n = cellAt (measures .width) (cell .row) (cell .col) in
-    Under measures psf gray (toggles (targetFor measures psf gray)) (reference dots₀ (scan₀ .stats)) n dots table scan
+    Under measures psf gray (toggles (targetFor measures psf gray)) (reference dots₀ (progress₀ .stats)) n dots table
+    progress
     × (cell .col < measures .width)
     × (n ≤ measures .height * measures .width)
 
 abbrev μ-loop : tie.MeasureT-loop
-μ-loop measures psf gray c dots₀ table₀ scan₀ cell₀ tested₀ dots table scan cell tested =
+μ-loop measures psf gray c dots₀ table₀ progress₀ cell₀ tested₀ dots table progress cell tested =
     measures .height * measures .width - cellAt (measures .width) (cell .row) (cell .col)
 
 loop-holds : tie.Need-loop-holds Inv-loop μ-loop
@@ -52,7 +53,7 @@ module _ (l : tie.At-loop Inv-loop μ-loop) where
   sound = entry-sound _ _ _ _ _ _ (s .pre .0)
 
   fits : LaterFits (s .args .measures) (s .args .psf .now) (s .args .gray .now) (l .loop .dots) (l .loop .table)
-      (l .loop .scan .stats)
+      (l .loop .progress .stats)
   fits = under-fits (l .loop .inv .0) (toggles-lawful target) sound (l .loop .inv .2)
 
 -- the cell reached is on the plate
@@ -93,7 +94,8 @@ loop-again c =
     let v = a .before .before .before in
     let l = here v in (
       under-at (under-skip (n v) (a .clear-run .result) (l .loop .inv .0) (fits l)
-          (λ j h. toggle-declined (target l) (l .loop .dots) (l .loop .scan) (n v + j) (a .clear-run .ensures .1 j h)))
+          (λ j h. toggle-declined (target l) (l .loop .dots) (l .loop .progress) (n v + j)
+          (a .clear-run .ensures .1 j h)))
           (sym (c .ahead .ensures .0)),
       c .ahead .ensures .1,
       omega (

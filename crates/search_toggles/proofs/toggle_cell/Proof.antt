@@ -24,11 +24,11 @@ module _ (k : tie.After-struct-known) where
   s = k .before .before .before .before
 
   abbrev fits : LaterFits (s .args .measures) (s .args .psf .now) (s .args .gray .now) (s .args .dots .now)
-      (s .args .table .now) (s .args .scan .stats)
+      (s .args .table .now) (s .args .progress .stats)
   fits = s .pre .0
 
   abbrev inside : (s .args .at .row < s .args .measures .height) × (s .args .at .col < s .args .measures .width)
-      × (s .args .scan .changes < 2 ^ 63)
+      × (s .args .progress .changes < 2 ^ 63)
   inside = s .pre .1 .1
 
   abbrev target : Target
@@ -115,8 +115,8 @@ returns c =
     let made = c .before .before .before .before in
     let lower = made .before .before .before in
     let a = start (lower .before) in
-    visit-one (s a .args .measures) _ _ _ (s a .args .scan) (toggle (s a .args .dots .now) (cell a))
-    (toggle-accepted (target a) _ (s a .args .scan) _ (test-is (lower .before) (lower .if1 .taken)))
+    visit-one (s a .args .measures) _ _ _ (s a .args .progress) (toggle (s a .args .dots .now) (cell a))
+    (toggle-accepted (target a) _ (s a .args .progress) _ (test-is (lower .before) (lower .if1 .taken)))
     (made .make-toggle .ensures .0) (made .make-toggle .ensures .1 .0) (made .make-toggle .ensures .1 .1)
 
 same-length-3 : tie.Need-same-length-3
@@ -128,8 +128,8 @@ same-length-4 c = search needs
 returns-2 : tie.Need-returns-2
 returns-2 c =
     let a = start (c .before) in
-    visit-none _ _ _ _ (s a .args .scan) (fits a)
-    (toggle-declined (target a) _ (s a .args .scan) _ (test-is (c .before) (c .if1 .left)))
+    visit-none _ _ _ _ (s a .args .progress) (fits a)
+    (toggle-declined (target a) _ (s a .args .progress) _ (test-is (c .before) (c .if1 .left)))
 
 pub toggle-cell-spec : {M : Type 1} → statement M
 toggle-cell-spec =

@@ -1,0 +1,2 @@
+-- What the trials of a swap scan show.
+pub mod Trials
