@@ -23,7 +23,7 @@ use Rattle.model.specs.Change.{Move, made, toggle, swap, Legal, change, 
 use Rattle.model.specs.Reference.{Reference, reference, accept}
 use Rattle.model.specs.Reference.{Tried, accepted, declined, Performed}
 use Rattle.model.specs.Reference.{statsOf, attempt, decided}
-use Rattle.model.specs.Calls.{result, toggleCall, swapCall, withTable, laterCall}
+use Rattle.model.specs.Calls.{result, Buffers, withTable, laterCall, toggleCall, swapCall}
 use Rattle.model.specs.Lists.{tried, latest}
 use Rattle.model.specs.Promises.{Verdict, Tries}
 use Rattle.model.proofs.Basic.{pick-cases}
@@ -142,8 +142,8 @@ module _ (m : Measures) (psf gray dots : List ℕ) (table : List ℤ) (s : Stats
         record {
           plate = plate;
           state =
-              accept-fits t (f .plate .halftone .wide .0) (lit≤ tt) dots (f .plate .halftone .dots-length) table s (f .state) v
-              legal l;
+              accept-fits t (f .plate .halftone .wide .0) (lit≤ tt) dots (f .plate .halftone .dots-length) table s
+              (f .state) v legal l;
         }
 
     -- accepted or declined, later calls accept it again
@@ -162,8 +162,15 @@ module _ (m : Measures) (psf gray dots : List ℕ) (table : List ℤ) (s : Stats
   abbrev target : Target
   target = targetFor m psf gray
 
+  -- what the reference does
+  abbrev doing : Move → Performed Tried
+  doing v = attempt target (reference dots s) v
+
+  abbrev Attempted : Move → Tried → Buffers → Type 0
+  Attempted = Tries m psf gray dots table s
+
   tries : (v : Move) → LaterFits m psf gray dots table s → Legal target dots v
-      → (let done = attempt target (reference dots s) v in Tries m psf gray dots table s v (done .answer) (withTable target (done .after .dots)))
+      → Attempted v (doing v .answer) (withTable target (doing v .after .dots))
   unfolding accept
   tries v f legal =
       let kept = attempt-later m psf gray dots table s f v legal in
@@ -181,10 +188,12 @@ module _ (m : Measures) (psf gray dots : List ℕ) (table : List ℤ) (s : Stats
       long : length dots ≡ cells (targetFor m psf gray)
       long = f .plate .halftone .dots-length
 
-      verdict : (let done = attempt target (reference dots s) v in
-          Verdict m psf gray dots table s v (withTable target (done .after .dots)) (done .answer))
+      Told : Performed Tried → Type 0
+      Told done = Verdict m psf gray dots table s v (withTable target (done .after .dots)) (done .answer)
+
+      verdict : Told (doing v)
       verdict =
-          attempt-cases target (reference dots s) v (λ done. Verdict m psf gray dots table s v (withTable target (done .after .dots)) (done .answer))
+          attempt-cases target (reference dots s) v Told
           (λ l. (
             refl,
             change-least target dots v long (legal .placed) l,
@@ -196,18 +205,18 @@ module _ (m : Measures) (psf gray dots : List ℕ) (table : List ℤ) (s : Stats
   -- the call of an attempt that is legal once it is not refused
   by-call : (number : ℕ) (v : Move) (answer : Tried)
       → (number ≡ 0 → LaterFits m psf gray dots table s × Legal target dots v)
-      → laterCall number target dots table (attempt target (reference dots s) v) .reply ≡ result answer
-      → Tries m psf gray dots table s v answer (laterCall number target dots table (attempt target (reference dots s) v) .left)
+      → laterCall number target dots table (doing v) .reply ≡ result answer
+      → Attempted v answer (laterCall number target dots table (doing v) .left)
   unfolding laterCall
   by-call number v answer enters e =
       let (taken, value, same) = was-done _ _ number refl e in
       let (fits, legal) = enters taken in
-      subst (λ o. Tries m psf gray dots table s v answer (o .left)) same
-      (subst (λ a. Tries m psf gray dots table s v a (withTable target (attempt target (reference dots s) v .after .dots))) value (tries v fits legal))
+      subst (λ o. Attempted v answer (o .left)) same
+      (subst (λ a. Attempted v a (withTable target (doing v .after .dots))) value (tries v fits legal))
 
   pub toggle-tries : (row col : ℕ) (answer : Tried)
       → toggleCall m psf gray dots table s row col .reply ≡ result answer
-      → Tries m psf gray dots table s (toggle dots (cellAt (m .width) row col)) answer (toggleCall m psf gray dots table s row col .left)
+      → Attempted (toggle dots (cellAt (m .width) row col)) answer (toggleCall m psf gray dots table s row col .left)
   unfolding toggleCall
   toggle-tries row col answer =
       by-call (toggleRefusal m psf gray dots table s row col) (toggle dots (cellAt (m .width) row col)) answer
@@ -215,7 +224,7 @@ module _ (m : Measures) (psf gray dots : List ℕ) (table : List ℤ) (s : Stats
 
   pub swap-tries : (row col row′ col′ : ℕ) (answer : Tried)
       → swapCall m psf gray dots table s row col row′ col′ .reply ≡ result answer
-      → Tries m psf gray dots table s (swap dots (cellAt (m .width) row col) (cellAt (m .width) row′ col′)) answer
+      → Attempted (swap dots (cellAt (m .width) row col) (cellAt (m .width) row′ col′)) answer
       (swapCall m psf gray dots table s row col row′ col′ .left)
   unfolding swapCall
   swap-tries row col row′ col′ answer =

@@ -94,7 +94,8 @@ module _ (m : Measures) (psf gray : List ℕ) where
               subst (λ h. (pos 255 *ℤ pos (changes (p .figures))) ≤ℤ fallOf (h .stats)) back (r .sound .state .fall);
           convergences-end-at-rest = λ before rest e.
               subst (λ h.
-              ComesToRest m psf gray (referenceRun m psf gray (begin t first) before .1) (call m psf gray h convergence))
+              ComesToRest m psf gray (referenceRun m psf gray (begin t first) before .1)
+              (call m psf gray h convergence))
               (sym (ap (λ x. x .1) (beside before .same))) (comes-to-rest _ (beside before .sound));
         }
 
@@ -111,7 +112,8 @@ module _ (m : Measures) (psf gray : List ℕ) where
       let (taken, value, same) = was-done _ _ (startRefusal m psf gray dots (length table)) refl e in
       subst (λ o.
       Demand3 m psf gray first (record { dots = o .left .dots; table = o .left .table; stats = s }) l) same
-      (subst (λ s. Demand3 m psf gray first (record { dots = first; table = filteredErrors t first; stats = s }) l) value
+      (subst (λ s.
+      Demand3 m psf gray first (record { dots = first; table = filteredErrors t first; stats = s }) l) value
       (from-start first (start-later m psf gray dots (length table) bytes taken) l))
 
   -- handed on as left, nothing draws 20 or 21, nor 1 to 7: from whatever a later call accepts, and whatever the call

@@ -28,8 +28,8 @@ pub examples : Examples
 unfolding sumTo sumFrom tabulate gridAt squareAt psfAt autocorrelation kernel error filteredError filteredErrors
     squaredError total bayer thresholdAt ordered startDots above someBelow badTable wrongStats toggleRefusal swapRefusal
     made toggle swap raised accept statsOf change attempt laterCall toggleCall swapCall
-    laterRefusal startRefusal freshStats startCall offsetsOf offsetsFrom offsets toggles swapsBy lookFrom tryEach sweepTo
-    convergeIn convergeFrom converge convergeCall digits names psfName grayName dotsName sheetText
+    laterRefusal startRefusal freshStats startCall offsetsOf offsetsFrom offsets toggles swapsBy lookFrom tryEach
+    sweepTo convergeIn convergeFrom converge convergeCall digits names psfName grayName dotsName sheetText
     head body fieldAt headOf bodyEnd readSheet refusedText figuresText processedText output workedInput workedOutput
 examples =
     record {

@@ -79,7 +79,8 @@ module _ (t : Target) (p : Reference) where
   unfolding laterCall
   same-by f done {n} {k} e c =
       subst (λ j.
-      Same (outcome f (laterCall n t (p .dots) (filteredErrors t (p .dots)) done)) (unless j p (replied f done))) e (go n)
+      Same (outcome f (laterCall n t (p .dots) (filteredErrors t (p .dots)) done)) (unless j p (replied f done)))
+      e (go n)
     where
       go : (n : ℕ)
           → Same (outcome f (laterCall n t (p .dots) (filteredErrors t (p .dots)) done)) (unless n p (replied f done))

@@ -28,7 +28,8 @@ use Rattle.model.specs.Sheet.{Sheet, cellsOf, names, sheetText, Valid}
 use Rattle.model.specs.Format.{Read, readSheet}
 use Rattle.model.specs.SheetCalls.{writtenSheet}
 use Rattle.model.specs.Program.{refusedText, whole, statsText, processedText, handedDots, output}
-use Rattle.model.specs.ProgramPromises.{IsSheet, StartRefuses, wrongSum, ProgramRefuses, tooLong, unread, unstarted}
+use Rattle.model.specs.ProgramPromises.{IsSheet, StartRefuses, wrongSum}
+use Rattle.model.specs.ProgramPromises.{ProgramRefuses, tooLong, unread, unstarted}
 use Rattle.model.specs.ProgramPromises.{sheetTarget, firstDots, convergedFrom}
 use Rattle.model.specs.ProgramPromises.{Printed, Prints, Unrefused, ProgramPromises}
 use Rattle.model.proofs.Error.{squared-nonneg}
@@ -167,7 +168,9 @@ module _ (s : Sheet) (v : Valid s) where
     unfolding converge begin
     after-start =
         converge-keeps (sheetTarget s) (m .reach) wide
-        (λ p. (p .figures .«start_error» ≡ squaredError (sheetTarget s) (firstDots s)) × (p .figures .«start_dots» ≡ dotTotal (firstDots s)))
+        (λ p.
+        (p .figures .«start_error» ≡ squaredError (sheetTarget s) (firstDots s))
+        × (p .figures .«start_dots» ≡ dotTotal (firstDots s)))
         (start-kept (sheetTarget s) _ _) first 0 first-halftone (refl, refl) .0
 
     written-valid : Valid (writtenSheet m (s .psf) (s .gray) (convergedFrom s .after .dots))
@@ -204,7 +207,8 @@ module _ (s : Sheet) (v : Valid s) where
           is-at-rest =
               converge-rest t (m .reach) wide (lit≤ tt) (v .in-range .reached) first 0 first-halftone;
           before-is-of-start =
-              whole-is (after .figures .«start_error») (subst (λ z. pos 0 ≤ℤ z) (sym after-start) (nonneg (firstDots s)))
+              whole-is (after .figures .«start_error»)
+              (subst (λ z. pos 0 ≤ℤ z) (sym after-start) (nonneg (firstDots s)))
               ∙ after-start;
           after-is-of-dots = whole-is (squaredError t (after .dots)) (nonneg (after .dots));
           on-is-reference = refl;

@@ -177,7 +177,9 @@ module _ (s : Sheet) (v : Valid s) (room : roomFor (s .measures) 49 4096 4096 �
 -- what is handed on of an outcome
 abbrev Handed : List ℕ → Outcome Measures SheetBuffers → Measures → Type 0
 Handed b o m =
-    (output b ≡ processedText m (take (entriesOf m) (o .left .psf)) (take (cellsOf m) (o .left .gray)) (take (cellsOf m) (o .left .dots))
+    (output b
+    ≡ processedText m (take (entriesOf m) (o .left .psf)) (take (cellsOf m) (o .left .gray))
+    (take (cellsOf m) (o .left .dots))
     (replicate (cellsOf m) (pos 0)))
     × InRange m
     × (entriesOf m ≤ 49)

@@ -86,7 +86,8 @@ module _ (m : Measures) (psf gray : List ℕ) where
         error-is-sum = refl;
         start-error-is-not-negative = f .start-low;
         start-error-is-bounded = f .start-high;
-        start-dots-are-counted = dots-counted (startDots m gray dots) (start-plate m psf gray dots table e .halftone .bits);
+        start-dots-are-counted =
+            dots-counted (startDots m gray dots) (start-plate m psf gray dots table e .halftone .bits);
         counts-are-0 = (refl, refl, refl);
         table-is-fresh = refl;
         is-accepted = fits-later m psf gray _ _ _ (start-later m psf gray dots table bytes e);

@@ -1,7 +1,7 @@
 -- One change (01: One change): the cells that it sets with their new bytes, the copy of the dots on which it is made, a
--- toggle, a swap, and when a change is legal; what it does to E, the copy's E less the E before; and document 01's
--- formulas for that, from T at the cells, the peak P and c, for every step u in place of 255. That both are the same are
--- laws (`toggle-change`, `byte-swap-change`, `swap-change` of proofs/Change.antt).
+-- toggle, a swap, and when a change is legal; what it does to E, the copy's E less the E before; one walk over changes;
+-- and document 01's formulas, from T at the cells, the peak P and c, for every step u in place of 255. That they give
+-- what a change does to E are laws (`toggle-change`, `byte-swap-change`, `swap-change` of proofs/Change.antt).
 use mathlib.Core.List.{List, [], _∷_}
 use Prim.Native.Nat.{ℕ, _*_, _-_, _≤_, _<_}
 use lib.Dec.{eqb}

@@ -1,6 +1,6 @@
 -- The C interface (include/platemaker.h), whose functions answer in numbers. Each makes one call of document 01. Here
--- is how an answer is laid out behind the pointers, how a ledger (`Stats`) and measures stand in a slice of numbers, and
--- that such a slice is judged like every other: 5 where its length is wrong.
+-- is how an answer is laid out behind the pointers, how a ledger (`Stats`) and measures stand in a slice of numbers,
+-- and that such a slice is judged like every other: 5 where its length is wrong.
 use mathlib.Core.Bool.{not}
 use mathlib.Core.List.{List, [], _∷_, _++_}
 use mathlib.Core.Path.{_≡_}

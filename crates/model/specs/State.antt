@@ -1,5 +1,5 @@
--- Document 01's refusals because of the state, 20 to 22, and the whole lists of the later calls, those that are handed a
--- table and a ledger (`Stats`).
+-- Document 01's refusals because of the state, 20 to 22, and the whole lists of the later calls, those that are handed
+-- a table and a ledger (`Stats`).
 use mathlib.Core.List.{List, [], _∷_, _++_}
 use mathlib.Core.Path.{_≡_}
 use Prim.Native.Nat.{ℕ, _^_, _≤_}
@@ -30,8 +30,8 @@ abbrev pub badLike : List ℕ → ℕ → ℕ → Refusal
 badLike dots m n = 22 when eqb (getD dots m 0) (getD dots n 0)
 
 -- ---- the later calls
--- what one asks of the cells that it names, by place: before 20 whether they can be named (8, 9), after 21 whether their
--- dots can be changed (22)
+-- what one asks of the cells that it names, by place: before 20 whether they can be named (8, 9), after 21 whether
+-- their dots can be changed (22)
 pub record Asked : Type 0 where
   pub named : List Refusal
   pub last : List Refusal

@@ -71,7 +71,8 @@ module _ (m : Measures) (psf gray : List ℕ) where
         (ap (λ x. squaredError t (x .dots)) (sym (made .after-is)) ∙ sym (made .fits .state .error-is))
         (subst (λ (z : ℤ). natAbs (squaredError t (sweep t rule (reference dots s) .after .dots)) < natAbs z)
         (sym (f .state .error-is))
-        (sweep-lowers t rule (reference dots s) (f .plate .halftone .wide .0) (cells t) (λ e. some (made .changes-are ∙ e))))
+        (sweep-lowers t rule (reference dots s) (f .plate .halftone .wide .0) (cells t)
+        (λ e. some (made .changes-are ∙ e))))
 
     -- where there are none, E is the same
     made-same : r .changes ≡ 0 → r .stats .error ≡ s .error

@@ -148,11 +148,13 @@ loop-again-2 c =
 
 same-length : tie.Need-same-length Inv-loop μ-loop
 same-length c =
-    let l = c .before .before .before in fits l .plate .halftone .dots-length ∙ sym (s l .pre .0 .plate .halftone .dots-length)
+    let l = c .before .before .before in
+    fits l .plate .halftone .dots-length ∙ sym (s l .pre .0 .plate .halftone .dots-length)
 
 same-length-2 : tie.Need-same-length-2 Inv-loop μ-loop
 same-length-2 c =
-    let l = c .before .before .before in fits l .plate .halftone .table-length ∙ sym (s l .pre .0 .plate .halftone .table-length)
+    let l = c .before .before .before in
+    fits l .plate .halftone .table-length ∙ sym (s l .pre .0 .plate .halftone .table-length)
 
 returns : tie.Need-returns Inv-loop μ-loop
 returns c =
