@@ -18,6 +18,7 @@ use Rattle.model.specs.Basic.{AtMost}
 use Rattle.model.specs.Psf.{total}
 use Rattle.model.specs.Screen.{startDots}
 use Rattle.model.specs.Refusal.{Refusal, _when_, firstOf, either, outside, differs, above}
+use Rattle.model.specs.Refusal.{badDot, badGiven, handed}
 use Rattle.model.specs.Refusal.{autocorrelationRefusals, halftoneRefusals, startRefusals, inputRefusals}
 use Rattle.model.specs.Refusal.{autocorrelationRefusal, halftoneRefusal, startRefusal, PsfFits, HalftoneFits}
 use Rattle.model.specs.Refusal.{PlateFits}
@@ -219,17 +220,26 @@ halftone-none w h r psf gray dots table f = (
 )
 
 -- ---- of the calls that are handed all five measures
--- a plate that draws none of 1 to 7
-pub plate-fits : (m : Measures) (psf gray dots : List ℕ) (table : ℕ) → None (inputRefusals m psf gray dots table)
+-- a plate that draws none of 1 to 6; the n dots that were judged may have given way to others, as many
+handed-fits : (m : Measures) (psf gray dots : List ℕ) (table : ℕ) {n : ℕ}
+    → None (handed m psf (length gray ∷ n ∷ table ∷ []))
+    → (n ≡ m .height * m .width → length dots ≡ m .height * m .width)
+    → AtMost 1 dots
     → PlateFits m psf gray dots table
-plate-fits m psf gray dots table (size, (radius, (reach, (kind, (exact, (sum, (dot, _))))))) =
+handed-fits m psf gray dots table (size, (radius, (reach, (kind, (exact, (sum, _)))))) long bits =
     record {
       reach-near = ltb-false 6 (m .reach) reach;
       kind-known = ltb-false 2 (m .start) kind;
-      halftone =
-          halftone-by (m .width) (m .height) (m .radius) psf gray dots table size radius exact sum (λ e. e)
-          (record { each = none-above 1 dots dot });
+      halftone = halftone-by (m .width) (m .height) (m .radius) psf gray dots table size radius exact sum long bits;
     }
+
+-- and not 7
+pub plate-fits : (m : Measures) (psf gray dots : List ℕ) (table : ℕ) → None (inputRefusals m psf gray dots table)
+    → PlateFits m psf gray dots table
+plate-fits m psf gray dots table drawn =
+    let lengths : List ℕ = length gray ∷ length dots ∷ table ∷ [] in
+    let (input, (dot, _)) = none-append (handed m psf lengths) (badDot dots ∷ []) drawn in
+    handed-fits m psf gray dots table input (λ e. e) (record { each = none-above 1 dots dot })
 
 -- and back
 pub plate-none : (m : Measures) (psf gray dots : List ℕ) (table : ℕ) → PlateFits m psf gray dots table
@@ -253,15 +263,11 @@ module _ (m : Measures) (psf gray dots : List ℕ) (table : ℕ) (taken : startR
 
   pub start-plate : PlateFits m psf gray (startDots m gray dots) table
   start-plate =
-      let (size, (radius, (reach, (kind, (exact, (sum, (dot, _))))))) = drawn in
-      record {
-        reach-near = ltb-false 6 (m .reach) reach;
-        kind-known = ltb-false 2 (m .start) kind;
-        halftone =
-            halftone-by (m .width) (m .height) (m .radius) psf gray (startDots m gray dots) table size radius exact sum
-            (start-long m gray dots)
-            (start-bits m gray dots (λ k. given (m .start) (ltb-false 2 (m .start) kind) k dot));
-      }
+      let lengths : List ℕ = length gray ∷ length dots ∷ table ∷ [] in
+      let (input, (dot, _)) = none-append (handed m psf lengths) (badGiven (m .start) dots ∷ []) drawn in
+      let (_, (_, (_, (kind, _)))) = input in
+      handed-fits m psf gray (startDots m gray dots) table input (start-long m gray dots)
+      (start-bits m gray dots (λ k. given (m .start) (ltb-false 2 (m .start) kind) k dot))
     where
       given : (k : ℕ) → k ≤ 2 → 2 ≤ k → eqb k 2 && above 1 dots ≡ false → AtMost 1 dots
       given k a b h = record { each = none-above 1 dots (rw (eq-eqb k 2 (omega arith)) at h) }
