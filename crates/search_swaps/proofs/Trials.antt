@@ -1,7 +1,7 @@
 -- The trials of a swap scan at one cell: the partners that it does not take are passed over, and the first that it
 -- takes ends them.
 --   all-failed               where every trial before k failed, those from k on are left
---   swap-taken               the first that is taken
+--   swap-taken               what the scan makes of the first that is taken
 --   failed-all, failed-next  the trials that failed, all of them and one more
 --   failed-still             where every one failed, the cell stays as it was
 use mathlib.Core.Bool.{Bool, true, false, _&&_, and-eq-true-iff}

@@ -1,7 +1,6 @@
 -- What a scan makes of one cell of a judged plate.
 --   visit-none, visit-one             nothing is accepted and all stays, or one change is accepted
 --   toggle-declined, toggle-accepted  a toggle scan
---   swaps-over, swap-accepted         a swap scan, from the j-th offset on
 use mathlib.Core.Bool.{true, false}
 use mathlib.Core.List.{List, []}
 use mathlib.Core.Path.{_≡_, refl, _∙_, ap, ap₂}
