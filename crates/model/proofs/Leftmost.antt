@@ -15,9 +15,9 @@ use lib.Seq.{take-at}
 use lib.ListN.{length, take, drop, length-append, take-append-drop}
 use Rattle.model.specs.declared.Measures.{Measures}
 use Rattle.model.specs.Text.{digits, NoDigit}
-use Rattle.model.specs.Sheet.{Sheet, roomFor, valuesOf, Shaped, InRange, Begins, Stops}
+use Rattle.model.specs.Sheet.{Sheet, roomFor, valuesOf, Shaped, InRange, Begins, Stops, headText}
 use Rattle.model.specs.SheetRefusal.{Section, line2, psfRows, grayRows, dotsRows, numbersIn, numberAt, least}
-use Rattle.model.specs.SheetRefusal.{most, headText, textBefore, Outside, Short, Draws, Leftmost}
+use Rattle.model.specs.SheetRefusal.{most, textBefore, Outside, Short, Draws, Leftmost}
 use Rattle.model.specs.Format.{head, body, textOf, measuresOf, headOf, Read, sheetOf, readSheet}
 use Rattle.model.proofs.Text.{Beyond, digits-some}
 use Rattle.model.proofs.Format.{OutsideAt, good-head, good-body}

@@ -16,9 +16,9 @@ use Rattle.model.specs.declared.Measures.{Measures}
 use Rattle.model.specs.Basic.{pick}
 use Rattle.model.specs.Text.{digits}
 use Rattle.model.specs.Sheet.{Sheet, sideOf, entriesOf, cellsOf, rows, endOf, gridText, psfName, grayName}
-use Rattle.model.specs.Sheet.{dotsName, valuesOf, dotsText, sheetText, Shaped}
+use Rattle.model.specs.Sheet.{dotsName, valuesOf, dotsText, sheetText, Shaped, headText}
 use Rattle.model.specs.SheetRefusal.{Section, line2, psfRows, grayRows, dotsRows, numbersIn, numberAt, perRow}
-use Rattle.model.specs.SheetRefusal.{least, most, headText, above, textBefore}
+use Rattle.model.specs.SheetRefusal.{least, most, linesAbove, textBefore}
 use Rattle.model.specs.Format.{Part, fixed, number, grid, block, head, psfBlock, grayBlock, dotsBlock, body}
 use Rattle.model.specs.Format.{textOf}
 use Rattle.model.proofs.Rows.{rows-grid}
@@ -59,7 +59,7 @@ module _ (s : Sheet) (shaped : Shaped s) where
 
   -- the numbers of a section stand under the lines above it
   section-text : (k : Section) → 0 < length (numbersIn k s)
-      → (more : List ℕ) × (sheetText s ≡ above k s ++ (gridText (perRow k s) 0 (numbersIn k s) ++ more))
+      → (more : List ℕ) × (sheetText s ≡ linesAbove k s ++ (gridText (perRow k s) 0 (numbersIn k s) ++ more))
   unfolding sheetText m
   section-text line2 n = (_, refl)
   section-text psfRows n = (

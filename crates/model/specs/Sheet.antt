@@ -77,6 +77,10 @@ dotsName = bytes "dots\n"
 abbrev pub valuesOf : Measures → List ℕ
 valuesOf m = m .width ∷ m .height ∷ m .radius ∷ m .reach ∷ m .start ∷ []
 
+-- lines 1 and 2
+abbrev pub headText : Measures → List ℕ
+headText m = names ++ row (valuesOf m)
+
 abbrev pub dotsText : Sheet → List ℕ
 dotsText s =
     let m = s .measures in

@@ -7,8 +7,8 @@ use Prim.Native.Nat.{ℕ, _≤_, _<_}
 use lib.ListN.{length, getD, take}
 use Rattle.model.specs.declared.Measures.{Measures}
 use Rattle.model.specs.Text.{digits, NoDigit}
-use Rattle.model.specs.Sheet.{Sheet, sideOf, roomFor, row, rows, gridText, names, psfName, grayName, dotsName}
-use Rattle.model.specs.Sheet.{valuesOf, Shaped, Stops}
+use Rattle.model.specs.Sheet.{Sheet, sideOf, roomFor, rows, gridText, names, psfName, grayName, dotsName}
+use Rattle.model.specs.Sheet.{valuesOf, headText, Shaped, Stops}
 
 -- ---- the numbers of a sheet
 -- where they stand: in line 2, and in the rows of the psf, the gray and the dots
@@ -45,10 +45,6 @@ most grayRows i = 255
 most dotsRows i = 1
 
 -- ---- the text before a number
--- lines 1 and 2
-abbrev pub headText : Measures → List ℕ
-headText m = names ++ row (valuesOf m)
-
 -- all lines above a section
 abbrev pub abovePsf : Sheet → List ℕ
 abovePsf s = headText (s .measures) ++ psfName
@@ -59,15 +55,15 @@ aboveGray s = abovePsf s ++ (rows (sideOf (s .measures)) (sideOf (s .measures)) 
 abbrev pub aboveDots : Sheet → List ℕ
 aboveDots s = aboveGray s ++ (rows (s .measures .width) (s .measures .height) (s .gray) ++ dotsName)
 
-abbrev pub above : Section → Sheet → List ℕ
-above line2 s = names
-above psfRows s = abovePsf s
-above grayRows s = aboveGray s
-above dotsRows s = aboveDots s
+abbrev pub linesAbove : Section → Sheet → List ℕ
+linesAbove line2 s = names
+linesAbove psfRows s = abovePsf s
+linesAbove grayRows s = aboveGray s
+linesAbove dotsRows s = aboveDots s
 
 -- and the numbers of the section before number i, each with the byte that ends it
 abbrev pub textBefore : Section → Sheet → ℕ → List ℕ
-textBefore k s i = above k s ++ gridText (perRow k s) 0 (take i (numbersIn k s))
+textBefore k s i = linesAbove k s ++ gridText (perRow k s) 0 (take i (numbersIn k s))
 
 -- ---- what draws 11 and 12; what draws 10 is `Stops`
 -- 11: a number of a sheet stands after the text before it, of any size and as a whole run of digits, and is outside its

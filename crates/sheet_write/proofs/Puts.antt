@@ -13,8 +13,8 @@ use lib.ListN.{length, drop, getD, set, length-append}
 use lib.Seq.{drop-cons, sets}
 use Rattle.model.specs.declared.Measures.{Measures}
 use Rattle.model.specs.Text.{digits}
-use Rattle.model.specs.Sheet.{sideOf, row, names, psfName, grayName, dotsName, valuesOf, sheetText, InRange, Shaped}
-use Rattle.model.specs.Sheet.{endOf, gridText, gridLength}
+use Rattle.model.specs.Sheet.{sideOf, names, psfName, grayName, dotsName, sheetText, InRange, Shaped}
+use Rattle.model.specs.Sheet.{headText, endOf, gridText, gridLength}
 use Rattle.model.specs.SheetCalls.{withGiven, writtenSheet}
 use Rattle.model.proofs.Rows.{grid-length, rows-grid}
 use Rattle.text_decimal.proofs.Digits.{sets-append}
@@ -56,10 +56,10 @@ module _ (vs : List ℕ) (i : ℕ) (h : i < length vs) where
       ∙ field-next (getD vs i 0) (endOf w i) (gridText w (i + 1) (drop (i + 1) vs)) out put at next p e
 
 -- ---- lines 1 and 2, with start 2
-abbrev pub headText : Measures → List ℕ
-headText m = names ++ row (valuesOf (withGiven m))
+abbrev pub givenHead : Measures → List ℕ
+givenHead m = headText (withGiven m)
 
-pub head-length : (m : Measures) → length (headText m)
+pub head-length : (m : Measures) → length (givenHead m)
     ≡ 32
     + (length (digits (m .width)) + 1)
     + (length (digits (m .height)) + 1)
@@ -79,7 +79,7 @@ block-length name w vs = length-append name (gridText w 0 vs) ∙ rw grid-length
 
 module _ (m : Measures) (psf gray dots : List ℕ) (r : InRange m) (s : Shaped (writtenSheet m psf gray dots)) where
   pub sheet-parts : sheetText (writtenSheet m psf gray dots)
-      ≡ headText m
+      ≡ givenHead m
       ++ (block psfName (sideOf m) psf ++ (block grayName (m .width) gray ++ block dotsName (m .width) dots))
   unfolding sheetText
   sheet-parts =
@@ -90,7 +90,7 @@ module _ (m : Measures) (psf gray dots : List ℕ) (r : InRange m) (s : Shaped (
       ) (simp append-assoc)
 
   pub sheet-length : length (sheetText (writtenSheet m psf gray dots))
-      ≡ length (headText m) + (4 + gridLength psf) + (5 + gridLength gray) + (5 + gridLength dots)
+      ≡ length (givenHead m) + (4 + gridLength psf) + (5 + gridLength gray) + (5 + gridLength dots)
   unfolding psfName grayName dotsName
   sheet-length = ap length sheet-parts ∙ simp (length-append, grid-length) (omega arith)
 

@@ -8,7 +8,7 @@ use lib.ListN.{length}
 use lib.Seq.{sets}
 use Rattle.model.specs.Sheet.{sideOf, psfName, grayName, dotsName, sheetText, gridLength}
 use Rattle.model.specs.SheetCalls.{writtenSheet}
-use Rattle.sheet_write.proofs.Puts.{part-next, headText, block, block-length, sheet-parts, sheet-length}
+use Rattle.sheet_write.proofs.Puts.{part-next, givenHead, block, block-length, sheet-parts, sheet-length}
 use Rattle.sheet_write.proofs.Puts.{psf-most, cells-most}
 use Rattle.sheet_write.proofs.put_sheet.Statement.{statement}
 use Rattle.sheet_write.proofs.put_sheet.Tie as tie
@@ -24,7 +24,7 @@ module _ (s : tie.Start) where
   dots = s .args .dots .now
 
   long : length (sheetText (writtenSheet (s .args .m) psf gray dots))
-      ≡ length (headText (s .args .m)) + (4 + gridLength psf) + (5 + gridLength gray) + (5 + gridLength dots)
+      ≡ length (givenHead (s .args .m)) + (4 + gridLength psf) + (5 + gridLength gray) + (5 + gridLength dots)
   long = sheet-length (s .args .m) psf gray dots (s .pre .0) (s .pre .1 .0)
 
   cells : (length gray ≤ 65536) × (length dots ≤ 65536)
@@ -88,7 +88,7 @@ returns c =
     let end : b3 .last .0 ≡ sets (b2 .last .0) (b2 .result) dots-block = b3 .ensures .1 in
     sym
     (ap (sets (a .out .now) 0) (sheet-parts m (psf s) (gray s) (dots s) (s .pre .0) (s .pre .1 .0))
-    ∙ part-next (headText m) (psf-block ++ (gray-block ++ dots-block))
+    ∙ part-next (givenHead m) (psf-block ++ (gray-block ++ dots-block))
     (a .out .now) (h .last .0) 0 (h .result) (h .ensures .1) (omega (arith, h .ensures .0))
     ∙ part-next psf-block (gray-block ++ dots-block)
     (h .last .0) (b1 .last .0) (h .result) (b1 .result) (b1 .ensures .1)
