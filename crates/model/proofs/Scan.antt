@@ -77,7 +77,7 @@ module _ (t : Target) where
 -- ---- what holds throughout a scan
 -- one more accepted change
 abbrev pub more : Sweep → Move → Sweep
-more s v = record { after = accept (s .after) v; changes = suc (s .changes) }
+more s v = taking s (v ∷ [])
 
 module _ (t : Target) where
   -- one change weighed, and then the others

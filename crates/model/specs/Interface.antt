@@ -115,7 +115,7 @@ IsAccepted (accepted s d) = Unit {0}
 IsAccepted (declined d) = ⊥
 
 -- its change tells: below 0 it was accepted, and only then; else dots, table and the slice of the ledger are as they
--- were (that every attempt tells so: `toggle-is-told`, `swap-is-told` of proofs/Interface.antt)
+-- were (that every attempt tells so is promised: `toggle-is-told`, `swap-is-told`)
 pub record Told (dots : List ℕ) (table stats : List ℤ) (a : Tried) (left : Buffers) : Type 0 where
   pub below-is-accepted : changeOf a <ℤ pos 0 → IsAccepted a
   pub accepted-is-below : IsAccepted a → changeOf a <ℤ pos 0

@@ -51,12 +51,6 @@ pub enum Attempt {
     Refused(u32),
 }
 
-// What a scan has come to so far: the ledger and the changes that it has accepted.
-pub struct Progress {
-    pub stats: Stats,
-    pub changes: u64,
-}
-
 // What a scan answers: the new ledger and the changes that it accepted.
 pub struct ScanResult {
     pub stats: Stats,
@@ -95,6 +89,12 @@ pub enum Writing {
 }
 
 // ---- the types of inner functions, which no public call answers
+
+// What a scan has come to so far: the ledger and the changes that it has accepted.
+pub struct Progress {
+    pub stats: Stats,
+    pub changes: u64,
+}
 
 // What a reader finds next in a text: a word, a number (257 stands for all above 256), a line end, or none of these.
 pub enum Item {
