@@ -188,12 +188,12 @@ module _ (m : Measures) (psf gray dots : List ℕ) (table : List ℤ) (s : Stats
       long : length dots ≡ cells (targetFor m psf gray)
       long = f .plate .halftone .dots-length
 
-      Told : Performed Tried → Type 0
-      Told done = Verdict m psf gray dots table s v (withTable target (done .after .dots)) (done .answer)
+      Decided : Performed Tried → Type 0
+      Decided done = Verdict m psf gray dots table s v (withTable target (done .after .dots)) (done .answer)
 
-      verdict : Told (doing v)
+      verdict : Decided (doing v)
       verdict =
-          attempt-cases target (reference dots s) v Told
+          attempt-cases target (reference dots s) v Decided
           (λ l. (
             refl,
             change-least target dots v long (legal .placed) l,

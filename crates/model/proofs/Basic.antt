@@ -45,10 +45,11 @@ pub zero-cases : {A : Type 0} (Q : A → Type 0) (n : ℕ) {x y : A} → (n ≡ 
     → Q (pick (eqb n 0) x y)
 zero-cases Q n f g = pick-cases Q (eqb n 0) (λ t. f (eqb-true n 0 t)) (λ t. g (eqb-false n 0 t))
 
--- choices that differ in one branch at most
-pub pick-cong : {A : Type 0} (b : Bool) {x x′ : A} (y : A) → (b ≡ true → x ≡ x′) → pick b x y ≡ pick b x′ y
-pick-cong true y f = f refl
-pick-cong false y f = refl
+-- choices whose branches are the same where they are taken
+pub pick-cong : {A : Type 0} (b : Bool) {x y x′ y′ : A} → (b ≡ true → x ≡ x′) → (b ≡ false → y ≡ y′)
+    → pick b x y ≡ pick b x′ y′
+pick-cong true f g = f refl
+pick-cong false f g = g refl
 
 -- ---- a bounded list
 pub at-most-tail : {k x : ℕ} {l : List ℕ} → AtMost k (x ∷ l) → AtMost k l

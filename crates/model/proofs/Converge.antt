@@ -4,7 +4,6 @@
 --   converge-keeps                               what each accepted change keeps, it keeps
 --   converge-scans, converge-counts              its scans are few, and no accepted change is forgotten
 --   converge-rest                                it ends at rest, by its last two scans alone
-use mathlib.Core.Bool.{Bool, true, false}
 use mathlib.Core.Path.{_≡_, refl, sym, _∙_, ap, subst}
 use Prim.Native.Nat.{ℕ, zero, suc, _+_, _*_, _≤_, _<_}
 use native.Mathlib.Nat.{not-suc-le-zero, le-refl}
@@ -18,15 +17,10 @@ use Rattle.model.specs.Reference.{Reference}
 use Rattle.model.specs.Scan.{Rule, toggles, Sweep, sweep, Convergence, swaps, turn, convergeIn, convergeFrom}
 use Rattle.model.specs.Lists.{Rest}
 use Rattle.model.specs.Ledger.{changes}
-use Rattle.model.proofs.Basic.{pick-cases}
+use Rattle.model.proofs.Basic.{pick-cases, pick-cong}
 use Rattle.model.proofs.Scan.{Lawful, toggles-lawful, swaps-lawful, Keeps, sweep-keeps}
 use Rattle.model.proofs.Scan.{sweep-halftone, sweep-counts, sweep-lowers, sweep-still}
 use Rattle.model.proofs.Rest.{rest-by}
-
-pick-cong : {A : Type 0} (b : Bool) {x y x′ y′ : A} → (b ≡ true → x ≡ x′) → (b ≡ false → y ≡ y′)
-    → pick b x y ≡ pick b x′ y′
-pick-cong true f g = f refl
-pick-cong false f g = g refl
 
 module _ (t : Target) (reach : ℕ) where
   -- the size of E

@@ -156,12 +156,12 @@ pub parse-refused : (a b : List Part) (s : List ℕ) (at : ℕ) → (parse a s a
 parse-refused [] b s at z = absurd (z refl)
 parse-refused (fixed bs ∷ a) b s at z =
     let p = fixedAt bs s at in
-    pick-cong (eqb (p .refusal) 0) _ (λ t. parse-refused a b s (p .at) (λ y. z (rw t y)))
+    pick-cong (eqb (p .refusal) 0) (λ t. parse-refused a b s (p .at) (λ y. z (rw t y))) (λ t. refl)
 parse-refused (number lo hi end ∷ a) b s at z =
     let f = fieldAt lo hi end s at in
-    pick-cong (eqb (f .refusal) 0) _ (λ t.
+    pick-cong (eqb (f .refusal) 0) (λ t.
     ap (λ (r : Parsed). parsed (r .refusal) (r .at) (f .value ∷ r .values))
-    (parse-refused a b s (f .at) (λ y. z (rw t y))))
+    (parse-refused a b s (f .at) (λ y. z (rw t y)))) (λ t. refl)
 
 -- the place after both
 pub parse-next : (a b : List Part) (s : List ℕ) (at : ℕ)

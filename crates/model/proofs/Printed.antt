@@ -9,7 +9,7 @@ use Prim.Native.Nat.{ℕ, _≤_, _<_}
 use native.Mathlib.Decide.{ℕ-discrete}
 use native.Mathlib.Omega.{arith}
 use borrow.Author.Tests.{ltb-true, ltb-false, lt-ltb, le-ltb, eqb-true, eq-eqb, ne-eqb}
-use lib.Dec.{ltb, eqb, lit≤}
+use lib.Dec.{ltb, eqb, lit≤, lit<}
 use lib.IntN.{ℤ, pos, negsuc}
 use lib.Signed.{_≤ℤ_}
 use lib.ListN.{length, getD, drop, replicate, length-replicate}
@@ -33,16 +33,16 @@ use Rattle.model.specs.ProgramPromises.{ProgramRefuses, tooLong, unread,
 use Rattle.model.specs.ProgramPromises.{sheetTarget, firstDots, convergedFrom}
 use Rattle.model.specs.ProgramPromises.{Printed, Prints, Unrefused, ProgramPromises}
 use Rattle.model.proofs.Error.{squared-nonneg}
-use Rattle.model.proofs.Refusal.{first-passes, _nor_, within, equal, above-none}
+use Rattle.model.proofs.Refusal.{first-passes, _nor_, within, alike-not, above-none}
 use Rattle.model.proofs.Start.{start-later}
 use Rattle.model.proofs.Later.{fits-later}
 use Rattle.model.proofs.Attempts.{Sound}
 use Rattle.model.proofs.Scan.{start-kept, sound-halftone, sound-kept}
 use Rattle.model.proofs.Converge.{converge-keeps, converge-rest}
 use Rattle.model.proofs.Text.{digits-apart}
-use Rattle.model.proofs.Sheet.{read-exactly, read-back, cells-fit}
-use Rattle.model.proofs.Leftmost.{refused-is-leftmost, leftmost-is-refused}
-use Rattle.model.proofs.Program.{output-long, output-is, few}
+use Rattle.model.proofs.Sheet.{read-exactly, read-back, same-text, cells-fit}
+use Rattle.model.proofs.Leftmost.{refused-is-leftmost, leftmost-is-refused, read-draws-nothing}
+use Rattle.model.proofs.Program.{text-most, output-long, output-is, few}
 
 -- ---- the text of a refusal
 -- no two refusals have the same
@@ -103,10 +103,10 @@ module _ (s : Sheet) (v : Valid s) where
             (
               le-ltb 2 (m .start) (r .kind),
               (
-                equal (v .shaped .psf-length)
-                    nor equal (v .shaped .gray-length)
-                    nor equal long
-                    nor equal (length-replicate (cellsOf m) (pos 0))
+                alike-not (v .shaped .psf-length)
+                    nor alike-not (v .shaped .gray-length)
+                    nor alike-not long
+                    nor alike-not (length-replicate (cellsOf m) (pos 0))
                     nor refl,
                 tt,
               ),
@@ -189,6 +189,28 @@ module _ (s : Sheet) (v : Valid s) where
           dots-most = d .bits;
         }
 
+    -- and which can be handed in again: it is short, it is read as itself, and its psf is the same
+    taken-again : cellsOf m ≤ 4096
+        → Unrefused (sheetText (writtenSheet m (s .psf) (s .gray) (convergedFrom s .after .dots)))
+    taken-again small n o (tooLong h) =
+        let w = writtenSheet m (s .psf) (s .gray) (convergedFrom s .after .dots) in
+        let v = written-valid in
+        let most = text-most w (v .in-range) (v .shaped) small 0 1 (lit< tt) (v .psf-most) (v .gray-most) (v .dots-most) in
+        omega (arith, h, most)
+    taken-again small n o (unread short l) =
+        let w = writtenSheet m (s .psf) (s .gray) (convergedFrom s .after .dots) in
+        let fits = cells-fit (w .measures) (written-valid .in-range) 4096 small in
+        let (z, _) = read-back (sheetText w) 49 4096 4096 w refl written-valid fits in
+        read-draws-nothing (sheetText w) 49 4096 4096 z n o (l .drawn)
+    taken-again small n o (unstarted {s = s′} short given d) =
+        let w = writtenSheet m (s .psf) (s .gray) (convergedFrom s .after .dots) in
+        let same : s′ ≡ w = sym (same-text w s′ written-valid (given .is-valid) (given .is-text)) in
+        summed (subst (λ x. StartRefuses x n) same d)
+      where
+        summed : {n : ℕ} → StartRefuses (writtenSheet m (s .psf) (s .gray) (convergedFrom s .after .dots)) n → ⊥
+        summed (wrongSum (inl e)) = omega (arith, e, first-sound .plate .halftone .psf-fits .sum-low)
+        summed (wrongSum (inr h)) = omega (arith, h, first-sound .plate .halftone .psf-fits .sum-high)
+
     printed : cellsOf m ≤ 4096 → {input : List ℕ} → output input ≡ text → Printed input s
     unfolding converge statsOf
     printed small e =
@@ -216,6 +238,7 @@ module _ (s : Sheet) (v : Valid s) where
           swaps-is-reference = refl;
           scans-is-reference = refl;
           is-a-sheet = record { is-text = refl; is-valid = written-valid; is-small = small };
+          is-taken-again = taken-again small;
         }
       where
         nonneg : (dots : List ℕ) → pos 0 ≤ℤ squaredError (sheetTarget s) dots

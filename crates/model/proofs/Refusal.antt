@@ -110,8 +110,8 @@ inside k n h =
 pub within : (k n : ℕ) → (1 ≤ n) × (n ≤ k) → eqb n 0 || ltb k n ≡ false
 within k n i = ne-eqb n 0 (λ e. omega (arith, i .0, e)) nor le-ltb k n (i .1)
 
-pub equal : {m n : ℕ} → m ≡ n → not (eqb m n) ≡ false
-equal {m} {n} e = ap not (eq-eqb m n e)
+pub alike-not : {m n : ℕ} → m ≡ n → not (eqb m n) ≡ false
+alike-not {m} {n} e = ap not (eq-eqb m n e)
 
 pub size-inside : (w h : ℕ) → outside w || outside h ≡ false → ((1 ≤ w) × (w ≤ 256)) × ((1 ≤ h) × (h ≤ 256))
 size-inside w h e =
@@ -209,10 +209,10 @@ halftone-none w h r psf gray dots table f = (
   (
     le-ltb 3 r (f .psf-fits .near),
     (
-      equal (f .psf-fits .square)
-          nor equal (f .gray-length)
-          nor equal (f .dots-length)
-          nor equal (f .table-length)
+      alike-not (f .psf-fits .square)
+          nor alike-not (f .gray-length)
+          nor alike-not (f .dots-length)
+          nor alike-not (f .table-length)
           nor refl,
       (within 1024 (total psf) (f .psf-fits .sum-low, f .psf-fits .sum-high), (above-none 1 dots (f .bits), tt)),
     ),

@@ -71,11 +71,11 @@ module _ (b : List ℕ) (p g d : ℕ) where
       other (inr (inr e)) y = absurd (omega arith)
 
 -- ---- what stands before the place of the reader begins a sheet
-abbrev pub Begun : List ℕ → ℕ → Type 0
-Begun b o = (o ≤ length b) × Begins (take o b)
+abbrev pub BeginsTo : List ℕ → ℕ → Type 0
+BeginsTo b o = (o ≤ length b) × Begins (take o b)
 
 agrees-begins : {b : List ℕ} {n o : ℕ} {t : List ℕ} (s : Sheet) → Shaped s → (more : List ℕ)
-    → sheetText s ≡ t ++ more → Agrees b 0 n o t → Begun b o
+    → sheetText s ≡ t ++ more → Agrees b 0 n o t → BeginsTo b o
 agrees-begins {b} {n} {o} s h more e r =
     let k : length (r .before) ≡ o = omega (arith, r .rises) in
     let l : length b ≡ length (r .before) + length (drop o b) =
@@ -111,7 +111,7 @@ blank-shaped m = record {
   dots-length = length-replicate (dotsIn m) 0;
 }
 
-head-begins : (b : List ℕ) → Begun b (parse head b 0 .at)
+head-begins : (b : List ℕ) → BeginsTo b (parse head b 0 .at)
 unfolding blank
 head-begins b =
     let (vs, l, r, w, _) = parse-agrees head good-head b 0 in
@@ -120,7 +120,7 @@ head-begins b =
     (text-head s ∙ ap (λ (k : List ℕ). textOf head k ++ bodyText s) (five vs (l ∙ numbers-head))) r
 
 -- after them: the sheet of the completed values
-body-begins : (b : List ℕ) → first b .refusal ≡ 0 → Begun b (second b .at)
+body-begins : (b : List ℕ) → first b .refusal ≡ 0 → BeginsTo b (second b .at)
 unfolding headOf
 body-begins b z =
     let m = measured b in
@@ -133,9 +133,9 @@ body-begins b z =
     ∙ ap₂ (λ k x. textOf head k ++ textOf (body m) x) (head-values b z ∙ sym (w z .0)) (sheet-values m us) in
     agrees-begins s shaped [] (t ∙ sym (append-nil (textOf head vs ++ textOf (body m) us))) (agrees-on (rw z at r) q)
 
-pub reader-begins : (b : List ℕ) (p g d : ℕ) → Begun b (readSheet b p g d .at)
+pub reader-begins : (b : List ℕ) (p g d : ℕ) → BeginsTo b (readSheet b p g d .at)
 reader-begins b p g d =
-    by-cases {Q = λ (r : Read). Begun b (r .at)} (record {
+    by-cases {Q = λ (r : Read). BeginsTo b (r .at)} (record {
       cut-head = λ z. head-begins b;
       no-room = λ z f. head-begins b;
       cut-body = λ z f y. body-begins b z;

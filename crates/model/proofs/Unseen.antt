@@ -146,7 +146,7 @@ module _ (q t t′ : List ℕ) where
   parse-local [] g at n h = refl
   parse-local (fixed bs ∷ ps) g at n h =
       rw (← fixed-local bs at before)
-      (pick-cong (eqb (p .refusal) 0) _ (λ e. parse-local ps g (p .at) (rw e at n) (rw e at h)))
+      (pick-cong (eqb (p .refusal) 0) (λ e. parse-local ps g (p .at) (rw e at n) (rw e at h)) (λ e. refl))
     where
       p : Place
       p = fixedAt bs (q ++ t) at
@@ -157,9 +157,9 @@ module _ (q t t′ : List ℕ) where
           (λ z k. omega (arith, parse-rises ps g (q ++ t) (p .at))) (λ z k. k) h
   parse-local (number lo hi end ∷ ps) g at n h =
       rw (← field-local lo hi end (g .0) at saw)
-      (pick-cong (eqb (f .refusal) 0) _ (λ e.
+      (pick-cong (eqb (f .refusal) 0) (λ e.
       ap (λ (r : Parsed). parsed (r .refusal) (r .at) (f .value ∷ r .values))
-      (parse-local ps (g .2) (f .at) (rw e at n) (rw e at h))))
+      (parse-local ps (g .2) (f .at) (rw e at n) (rw e at h))) (λ e. refl))
     where
       f : Field
       f = fieldAt lo hi end (q ++ t) at

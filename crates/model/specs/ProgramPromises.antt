@@ -41,6 +41,10 @@ pub data ProgramRefuses (input : List ℕ) : (n o : ℕ) → Type 0 where
   unstarted : {s : Sheet} {n : ℕ} → length input ≤ 32768 → IsSheet input s → StartRefuses s n
       → ProgramRefuses input n 0
 
+-- no refusal is due
+abbrev pub Unrefused : List ℕ → Type 0
+Unrefused input = (n o : ℕ) → ProgramRefuses input n o → ⊥
+
 -- ---- a sheet with its figures
 -- the plate that a sheet is held against, and the dots of its start
 abbrev pub sheetTarget : Sheet → Target
@@ -76,16 +80,13 @@ pub record Printed (input : List ℕ) (s : Sheet) : Type 0 where
   pub off-is-reference : off ≡ convergedFrom s .after .figures .off
   pub swaps-is-reference : swaps ≡ convergedFrom s .after .figures .swaps
   pub scans-is-reference : scans ≡ convergedFrom s .answer .scans
-  -- without the two lines it is a sheet that the reader takes again
+  -- without the two lines it is a sheet, which the program takes again
   pub is-a-sheet : let w = writtenSheet (s .measures) (s .psf) (s .gray) dots in IsSheet (sheetText w) w
+  pub is-taken-again : Unrefused (sheetText (writtenSheet (s .measures) (s .psf) (s .gray) dots))
 
 -- a sheet was handed in, and is printed so
 abbrev pub Prints : List ℕ → Type 0
 Prints input = (s : Sheet) × IsSheet input s × Printed input s
-
--- no refusal is due
-abbrev pub Unrefused : List ℕ → Type 0
-Unrefused input = (n o : ℕ) → ProgramRefuses input n o → ⊥
 
 -- ---- the promise
 pub record ProgramPromises (input : List ℕ) : Type 0 where

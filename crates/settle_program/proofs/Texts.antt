@@ -53,7 +53,7 @@ module _ (m : Measures) (psf gray dots : List ℕ) where
   sheet-most h z few =
       let given : InRange (withGiven m) =
       record { wide = h .wide; high = h .high; near = h .near; reached = h .reached; kind = omega arith } in
-      text-most (writtenSheet m psf gray dots) given z few
+      text-most (writtenSheet m psf gray dots) given z few 2 255 (omega arith)
 
   -- the sheet, then the figures
   pub result-put : (done : ConvergeResult) (out sheet left : List ℕ) (end answer : ℕ)
