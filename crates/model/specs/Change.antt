@@ -26,8 +26,7 @@ pub record Move : Type 0 where
 
 -- every cell that it sets is one of the N of the plate
 abbrev pub Placed : ℕ → List Setting → Type 0
-Placed N [] = Unit {0}
-Placed N (x ∷ l) = (x .cell < N) × Placed N l
+Placed N = All (λ x. x .cell < N)
 
 -- the copy of the dots on which it is made
 unfoldable pub made : List ℕ → List Setting → List ℕ
