@@ -1,5 +1,6 @@
 -- Laws of the general definitions: a choice, a list by its entries, and an entry of a square.
 --   pick-cases, zero-cases             a choice by what is known of its test, or of a number that is tested for 0
+--   all-append                         what holds of every entry of two lists holds of the two together
 --   length-tabulate, getD-tabulate     the length and the entries of a list that is tabulated
 --   fill-none, fill-next, fill-all     a list that a loop fills from the front
 --   squareAt-inside, squareAt-outside  an entry of a square by the two cells that its offset lies between
@@ -23,7 +24,7 @@ use Rattle.algebra.proofs.Solver.{ring!, reify}
 use Rattle.algebra.proofs.Order.{show≤, show<, show≡, read<, read≡}
 use Rattle.algebra.proofs.Grid.{cell<}
 use Rattle.algebra.proofs.Interval.{Supported2}
-use Rattle.model.specs.Basic.{pick, tabulate, AtMost, gridAt, squareAt}
+use Rattle.model.specs.Basic.{pick, tabulate, All, AtMost, gridAt, squareAt}
 
 -- ---- a choice whose test is known
 pick-yes {ℓ} : {A : Type ℓ} (b : Bool) (x y : A) → T b → pick b x y ≡ x
@@ -54,6 +55,11 @@ pick-cong false f g = g refl
 -- ---- a bounded list
 pub at-most-tail : {k x : ℕ} {l : List ℕ} → AtMost k (x ∷ l) → AtMost k l
 at-most-tail h = record { each = λ i. h .each (suc i) }
+
+-- ---- what holds of every entry of two lists
+pub all-append : {A : Type 0} (P : A → Type 0) (a b : List A) → All P a → All P b → All P (a ++ b)
+all-append P [] b h k = k
+all-append P (x ∷ a) b (p, h) k = (p, all-append P a b h k)
 
 -- ---- a part of a list that is lent
 pub part-whole : {A : Type 0} (n : ℕ) (l : List A) → n ≤ length l → n ≡ length (take n l)

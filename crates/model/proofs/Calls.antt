@@ -1,4 +1,5 @@
 -- What a call answers and leaves where it is refused, and where it is not.
+--   no-result, same-result, same-refusal  what a reply says, it says alone
 --   is-refused, is-done      the number that the judge found, and the buffer as it was; or the outcome
 --   was-taken, was-done      a call that answers a value was not refused, and the value is the outcome's
 --   both-refused, both-done  the first two, of a call that is lent dots and table
@@ -17,6 +18,20 @@ valueOr a (refused n o) = a
 abbrev IsResult : {A : Type 0} → Reply A → Type 0
 IsResult (result a) = Unit {0}
 IsResult (refused n o) = ⊥
+
+-- a refusal is no result, and each is one number or one value only
+pub no-result : {A : Type 0} {n k : ℕ} {a : A} → refused n k ≡ result a → ⊥
+no-result e = subst IsResult (sym e) tt
+
+pub same-result : {A : Type 0} {a b : A} → result a ≡ result b → a ≡ b
+same-result {a = a} e = ap (valueOr a) e
+
+abbrev drawnBy : {A : Type 0} → Reply A → ℕ × ℕ
+drawnBy (result a) = (0, 0)
+drawnBy (refused n k) = (n, k)
+
+pub same-refusal : {A : Type 0} {n k m j : ℕ} → _≡_ {A = Reply A} (refused n k) (refused m j) → (n ≡ m) × (k ≡ j)
+same-refusal e = (ap (λ r. drawnBy r .0) e, ap (λ r. drawnBy r .1) e)
 
 module _ {A B : Type 0} (b : B) (o : Outcome A B) where
   -- the number answered is the one that the judge found, and the buffer is as it was

@@ -43,6 +43,20 @@ pub mod Refused
 pub mod Leftmost
 pub mod Program
 pub mod Printed
+-- Pictures: plates and shading as Netpbm files
+pub mod Glyphs
+pub mod Fields
+pub mod Numerals
+pub mod Header
+pub mod WrittenHead
+pub mod Tables
+pub mod Raster
+pub mod Pictures
+pub mod Verdicts
+pub mod PbmReading
+pub mod PgmReading
+pub mod PictureWriting
+pub mod PictureExamples
 -- the C interface
 pub mod Interface
 -- Examples

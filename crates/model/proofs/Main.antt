@@ -17,6 +17,10 @@ use Rattle.model.proofs.Sheet.{read-exactly, read-back, same-text, writ
 use Rattle.model.proofs.Refused.{read-within}
 use Rattle.model.proofs.Leftmost.{refused-is-leftmost, leftmost-is-refused, read-draws-nothing}
 use Rattle.model.proofs.Printed.{program-promises}
+use Rattle.model.proofs.PbmReading.{pbm-reading}
+use Rattle.model.proofs.PgmReading.{pgm-reading}
+use Rattle.model.proofs.PictureWriting.{pbm-written, pgm-written, counting}
+use Rattle.model.proofs.PictureExamples.{picture-examples}
 use Rattle.model.proofs.Interface.{start-over, call-over, toggle-is-told, swap-is-told, stored-read, run-over}
 use Rattle.model.proofs.Examples.{examples, one-sided}
 
@@ -84,6 +88,14 @@ promises =
         written-sheet-reads-back = written-back m psf gray dots out k done psf-bytes gray-bytes;
       };
       program-promises = program-promises;
+      picture-promises = record {
+        pbm-reading-promises = pbm-reading;
+        pgm-reading-promises = pgm-reading;
+        pbm-writing-promises = pbm-written;
+        pgm-writing-promises = pgm-written;
+        counting-promises = counting;
+        picture-examples-hold = picture-examples;
+      };
       interface-promises = λ m psf gray. record {
         stored-stats-read-back = stored-read;
         start-takes-its-slice = start-over m psf gray;

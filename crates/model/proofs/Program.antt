@@ -26,7 +26,8 @@ use Rattle.model.specs.Program.{refusedText, processedText, handedDots, 
 use Rattle.model.proofs.Basic.{at-most-tail}
 use Rattle.model.proofs.Text.{length-most, and-true}
 use Rattle.model.proofs.Rows.{rows-grid, grid-length}
-use Rattle.model.proofs.Sheet.{read-exactly, entries-most, done-refused, front}
+use Rattle.model.proofs.Calls.{no-result}
+use Rattle.model.proofs.Sheet.{read-exactly, entries-most, front}
 
 -- ---- how long a sheet is at most
 -- values of at most j + 1 digits
@@ -221,7 +222,7 @@ module _ (b : List ℕ) (short : length b ≤ 32768) where
       go : (t : Bool) → eqb (r .refusal) 0 ≡ t → readText r ≡ refusedText n o
       go true t =
           let k : result (r .sheet .measures) ≡ refused n o = rw t at reply in
-          done-refused k
+          absurd (no-result (sym k))
       go false t =
           let k : refused (r .refusal) (r .at) ≡ refused n o = rw t at reply in
           let x : r .refusal ≡ n = cc in
@@ -245,4 +246,4 @@ module _ (b : List ℕ) (short : length b ≤ 32768) where
           subst (Handed b outcome) n (o, v .in-range, few s v room .0, few s v room .1)
       go false t =
           let k : refused (r .refusal) (r .at) ≡ result m = rw t at reply in
-          done-refused (sym k)
+          absurd (no-result k)

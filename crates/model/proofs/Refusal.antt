@@ -99,10 +99,10 @@ infixr 30 _nor_
 pub _nor_ : {a b : Bool} → a ≡ false → b ≡ false → a || b ≡ false
 e nor f = rw (e, f) refl
 
-same : (m n : ℕ) → not (eqb m n) ≡ false → m ≡ n
+pub same : (m n : ℕ) → not (eqb m n) ≡ false → m ≡ n
 same m n h = eqb-true m n (not-false (eqb m n) h)
 
-inside : (k n : ℕ) → eqb n 0 || ltb k n ≡ false → (1 ≤ n) × (n ≤ k)
+pub inside : (k n : ℕ) → eqb n 0 || ltb k n ≡ false → (1 ≤ n) × (n ≤ k)
 inside k n h =
     let (low, high) = neither (eqb n 0) (ltb k n) h in
     (omega (arith, eqb-false n 0 low), ltb-false k n high)

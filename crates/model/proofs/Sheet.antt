@@ -23,10 +23,10 @@ use Rattle.model.specs.Sheet.{dotsName, valuesOf, dotsText, sheetText, S
 use Rattle.model.specs.Format.{Part, fixed, number, grid, block, head, psfBlock, grayBlock, dotsBlock, body}
 use Rattle.model.specs.Format.{textOf, Parsed, parse, measuresOf, headOf, sheetOf, Read, refusedAt, bodyEnd}
 use Rattle.model.specs.Format.{readSheet}
-use Rattle.model.specs.Calls.{result, refused, Outcome}
+use Rattle.model.specs.Calls.{result, Outcome}
 use Rattle.model.specs.SheetCalls.{readCall, withGiven, writtenSheet, writeText, writeCall}
 use Rattle.model.proofs.Basic.{pick-cases, zero-cases, at-most-tail}
-use Rattle.model.proofs.Calls.{was-taken}
+use Rattle.model.proofs.Calls.{no-result, was-taken}
 use Rattle.model.proofs.Refusal.{none, size-inside, none-above, alike}
 use Rattle.model.proofs.Rows.{text-grid, rows-grid}
 use Rattle.model.proofs.Format.{numbers, Inside, inside-length, good-head, good-body, text-append, values-length}
@@ -428,10 +428,6 @@ module _ (m : Measures) (psf gray dots : List ℕ) (taken : writeRefusal m psf g
       let (_, (_, (_, (_, (_, (dot, _)))))) = none drawn tt refl taken in
       record { each = none-above 1 dots dot }
 
--- a result is no refusal
-pub done-refused : {A B : Type 0} {x : A} {n o : ℕ} → result x ≡ refused n o → B
-done-refused e = absurd (let z : _≡_ {A = ℕ} 0 1 = cc in omega arith)
-
 -- what stands at the front of a buffer
 pub front : {A : Type 0} (l vs : List A) (n : ℕ) → length vs ≡ n → n ≤ length l → take n (sets l 0 vs) ≡ vs
 front l vs n e h = ap (take n) (sets-eq vs l 0 (omega arith)) ∙ take-at vs (drop (0 + length vs) l) n e
@@ -443,7 +439,7 @@ text-whole text out k =
     pick-cases (λ (w : Outcome ℕ (List ℕ)). w .reply ≡ result k → (k ≡ length text) × (take k (w .left) ≡ text))
     (leb (length text) (length out)) (λ t n.
     let l : length text ≡ k = cc in
-    (sym l, front out text k l (omega (arith, leb-true (length text) (length out) t)))) (λ t n. done-refused (sym n))
+    (sym l, front out text k l (omega (arith, leb-true (length text) (length out) t)))) (λ t n. absurd (no-result n))
 
 -- a written sheet is its whole text, and valid
 module _ (m : Measures) (psf gray dots out : List ℕ) (k : ℕ) (done : writeCall m psf gray dots out .reply ≡ result k)

@@ -2,6 +2,7 @@
 --   dots-counted                       the dot total is the number of dot bytes that are 1
 --   below, at-least, equal, all-below  what the tests of 20 and 21 say
 --   state-accepted, state-known        none of their conditions holds exactly where the state fits
+--   total-known                        the dot total of a ledger that 21 does not refuse
 --   fresh-fits                         dots with their table and a fresh ledger fit
 --   fits-accepted, accepted-fits       so they are drawn exactly where it does not fit
 use mathlib.Core.Bool.{Bool, true, false, not}
@@ -23,7 +24,7 @@ use Rattle.model.specs.declared.Stats.{Stats}
 use Rattle.model.specs.Basic.{AtMost, someBelow}
 use Rattle.model.specs.Psf.{total}
 use Rattle.model.specs.Error.{Target, cells, filteredError, filteredErrors, squaredError, mostSquared}
-use Rattle.model.specs.Ledger.{dotTotal, unequal, some, faults, wrongStats, freshStats}
+use Rattle.model.specs.Ledger.{dotTotal, ledgerDots, unequal, some, faults, wrongStats, freshStats}
 use Rattle.model.specs.State.{badTable, badStats, StateFits}
 use Rattle.model.specs.Refusal.{firstOf}
 use Rattle.model.proofs.Basic.{at-most-tail, getD-tabulate, tabulate-by}
@@ -143,6 +144,15 @@ module _ (t : Target) (dots : List ℕ) where
         total-is = equal _ _ total;
         fall = at-least _ _ fall;
       }
+
+  -- the dot total of a ledger that 21 does not refuse
+  pub total-known : (s : Stats) → firstOf (badStats t dots s ∷ []) ≡ 0 → pos (dotTotal dots) ≡ ledgerDots (s .figures)
+  unfolding wrongStats
+  total-known s e =
+      let (drawn, _) = none (badStats t dots s ∷ []) tt refl e in
+      let (_, (_, (_, (_, (total, _)))))
+      = clear (faults (cells t) (t .step) (squaredError t dots) (dotTotal dots) s) drawn in
+      equal _ _ total
 
   -- of dots with their table and a fresh ledger
   pub fresh-fits : AtMost 1 dots → length dots ≡ cells t

@@ -1,6 +1,7 @@
 -- Laws of texts: the digits of a number, and the items that a reader yields.
 --   digits-low, digits-more, length-most  the digits: one, or those of the tenth and one more; and how many at most
 --   digits-apart                          no two numbers have the same digits, whatever follows that is no digit
+--   cap-low, cap-is                       a number that is read below the limit
 --   number-low, number-high               a number is yielded for its whole run of digits, as 257 where it is above 256
 --   leading-zero                          in a longer run that begins 0 the second digit cannot be there
 --   yielded-number                        where a number is yielded stands the whole run of its digits
@@ -19,7 +20,7 @@ use Rattle.model.specs.declared.Item.the-variants.{Word, Number, LineEnd
 use Rattle.model.specs.declared.Run.{Run}
 use Rattle.model.specs.declared.Step.{Step}
 use Rattle.model.specs.Basic.{pick}
-use Rattle.model.specs.Text.{isLetter, isDigit, digitsIn, digits, capped, grow, NoDigit, runFrom, step}
+use Rattle.model.specs.Text.{isLetter, isDigit, digitsIn, digits, capTo, capped, grow, NoDigit, runFrom, step}
 use Rattle.model.specs.Text.{numberStep, itemFrom, stepAt}
 
 -- ---- the digits of a number
@@ -99,6 +100,19 @@ digit-range b e =
     (leb-true 48 b (p .0), leb-true b 57 (p .1))
 
 -- ---- from the digits to what is read
+-- a number below the limit is read as it is, and what is read below the limit is the number
+pub cap-low : (limit n : ℕ) → n < limit → capTo limit n ≡ n
+cap-low limit n h = rw (lt-ltb n limit h)
+
+pub cap-is : (limit n : ℕ) {v : ℕ} → v ≡ capTo limit n → v < limit → n ≡ v
+cap-is limit n {v} e h = go (ltb n limit) refl
+  where
+    go : (b : Bool) → ltb n limit ≡ b → n ≡ v
+    go true f = sym (e ∙ rw f)
+    go false f =
+        let top : v ≡ limit = e ∙ rw f in
+        absurd (omega arith)
+
 -- the cap does not change whether a value is in its field
 pub capped-inside : (lo hi v : ℕ) → hi ≤ 256 → leb lo (capped v) && leb (capped v) hi ≡ leb lo v && leb v hi
 capped-inside lo hi v k = go (ltb v 257) refl
@@ -111,12 +125,12 @@ capped-inside lo hi v k = go (ltb v 257) refl
         (and-false (leb lo 257) ∙ sym (and-false (leb lo v)))
 
 pub capped-low : (n : ℕ) → n ≤ 256 → capped n ≡ n
-capped-low n h = rw (lt-ltb n 257 (omega arith))
+capped-low n h = cap-low 257 n (omega arith)
 
 pub capped-high : (n : ℕ) → 256 < n → capped n ≡ 257
 capped-high n h = rw (le-ltb n 257 (omega arith))
 
-digit : (r : ℕ) → r < 10 → isDigit (48 + r) ≡ true
+pub digit : (r : ℕ) → r < 10 → isDigit (48 + r) ≡ true
 digit r h = rw (le-leb 48 (48 + r) (omega arith), le-leb (48 + r) 57 (omega arith))
 
 grow-low : (m r : ℕ) → m * 10 + r < 257 → r < 10 → grow m (48 + r) ≡ m * 10 + r

@@ -27,10 +27,16 @@ pub mod SheetRefusal
 pub mod Format
 pub mod SheetCalls
 pub mod Program
+-- Pictures: plates and shading as Netpbm files (02, C-11)
+pub mod Netpbm
+pub mod PictureHeader
+pub mod PictureCalls
+pub mod PictureExamples
 -- the C interface
 pub mod Interface
 -- Examples
 pub mod Examples
 -- what is promised
 pub mod ProgramPromises
+pub mod PicturePromises
 pub mod Promises

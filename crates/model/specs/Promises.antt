@@ -1,5 +1,5 @@
--- The promises of document 01: a record for each of its parts, a field for each sentence. That they hold is `promises`
--- of proofs/Main.antt. That the public calls answer and leave just what is said here stands in their contracts, which
+-- The promises of document 01: a record for each of its parts, a field for each sentence; those of the requests of
+-- document 02 stand in files of their own and are among them. That they hold is `promises` of proofs/Main.antt. That the public calls answer and leave just what is said here stands in their contracts, which
 -- cite the same definitions.
 use mathlib.Core.Path.{_≡_}
 use mathlib.Core.Bool.{true}
@@ -38,6 +38,7 @@ use Rattle.model.specs.SheetRefusal.{Draws, Leftmost}
 use Rattle.model.specs.Format.{readSheet}
 use Rattle.model.specs.SheetCalls.{withGiven, writtenSheet, readCall, writeCall}
 use Rattle.model.specs.ProgramPromises.{ProgramPromises}
+use Rattle.model.specs.PicturePromises.{PicturePromises}
 use Rattle.model.specs.Interface.{statsSize, numbers, statsIn, startOver, toggleOver, swapOver, Told}
 use Rattle.model.specs.Interface.{Slices, slicesOf, heldIn, callOver, runOver}
 use Rattle.model.specs.Examples.{Examples, OneSided}
@@ -347,6 +348,7 @@ pub record Promises : Type 0 where
       → writeCall m psf gray dots out .reply ≡ result k → AtMost 255 psf → AtMost 255 gray
       → WritingPromises m psf gray dots out k
   pub program-promises : (input : List ℕ) → ProgramPromises input
+  pub picture-promises : PicturePromises
   pub interface-promises : (m : Measures) (psf gray : List ℕ) → InterfacePromises m psf gray
   -- the starred examples of document 01, and its worked example as the program prints it
   pub examples-hold : Examples

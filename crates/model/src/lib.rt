@@ -88,6 +88,24 @@ pub enum Writing {
     Refused(u32, usize),
 }
 
+// The size of a picture: width and height in cells.
+pub struct Size {
+    pub width: usize,
+    pub height: usize,
+}
+
+// The answer of reading a picture: its size, or refused with a number of the requests' document 02.
+pub enum Picture {
+    Done(Size),
+    Refused(u32),
+}
+
+// The answer of writing a picture: its length in bytes, or refused with the number of document 01.
+pub enum Written {
+    Done(usize),
+    Refused(u32),
+}
+
 // ---- the types of inner functions, which no public call answers
 
 // What a scan has come to so far: the ledger and the changes that it has accepted.
@@ -136,4 +154,21 @@ pub struct Head {
     pub refusal: u32,
     pub at: usize,
     pub measures: Measures,
+}
+
+// What is found of a picture's header so far: whether all of it was there, the value of its last number, 0 where it is
+// none, and the place after it.
+pub struct Found {
+    pub some: bool,
+    pub value: usize,
+    pub at: usize,
+}
+
+// The header of a picture: whether it is one, its numbers, and the place after it. The maximum of a PBM is 1.
+pub struct PictureHeader {
+    pub good: bool,
+    pub width: usize,
+    pub height: usize,
+    pub maximum: usize,
+    pub at: usize,
 }

@@ -17,7 +17,7 @@ use Rattle.model.specs.Sheet.{sideOf, names, psfName, grayName, dotsName, sheet
 use Rattle.model.specs.Sheet.{headText, endOf, gridText, gridLength}
 use Rattle.model.specs.SheetCalls.{withGiven, writtenSheet}
 use Rattle.model.proofs.Rows.{grid-length, rows-grid}
-use Rattle.text_decimal.proofs.Digits.{sets-append}
+use Rattle.model.proofs.Tables.{sets-append}
 
 -- ---- what is left to put
 -- after one byte

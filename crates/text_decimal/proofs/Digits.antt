@@ -1,20 +1,15 @@
 -- How a number is put, and how many digits it has.
---   sets-append               bytes put in two parts
 --   last-digit                the last digit, after the higher ones were put
 --   two-digits, three-digits  of the numbers from 10 to 999
-use mathlib.Core.List.{List, [], _∷_, _++_}
+use mathlib.Core.List.{List, [], _∷_}
 use mathlib.Core.Path.{_≡_, _∙_, ap, sym}
-use Prim.Native.Nat.{ℕ, suc, _+_, _/_, _%_, _≤_, _<_}
-use native.Mathlib.Nat.{add-zero, add-suc, suc-add}
+use Prim.Native.Nat.{ℕ, _+_, _/_, _%_, _≤_, _<_}
 use native.Mathlib.Omega.{arith}
 use lib.ListN.{length, set}
 use lib.Seq.{sets}
 use Rattle.model.specs.Text.{digits}
+use Rattle.model.proofs.Tables.{sets-append}
 use Rattle.model.proofs.Text.{digits-more, length-low, length-more}
-
-pub sets-append : (a b l : List ℕ) (i : ℕ) → sets l i (a ++ b) ≡ sets (sets l i a) (i + length a) b
-sets-append [] b l i = rw add-zero
-sets-append (x ∷ a) b l i = sets-append a b (set l i x) (suc i) ∙ rw (suc-add, add-suc)
 
 -- the last digit, after the higher ones were put
 pub last-digit : (out higher : List ℕ) (at end n : ℕ) → 10 ≤ n

@@ -14,7 +14,7 @@ fn is_letter(b: u8) -> bool
     97 <= b && b <= 122
 }
 
-fn is_digit(b: u8) -> bool
+pub fn is_digit(b: u8) -> bool
     ensures { λ r. ⌜ r ≡ isDigit b ⌝ }
 {
     48 <= b && b <= 57

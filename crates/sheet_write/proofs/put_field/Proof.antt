@@ -3,7 +3,7 @@ use mathlib.Core.List.{[], _∷_}
 use native.Mathlib.Omega.{arith}
 use borrow.Author.Needs.{needs}
 use Rattle.model.specs.Text.{digits}
-use Rattle.text_decimal.proofs.Digits.{sets-append}
+use Rattle.model.proofs.Tables.{sets-append}
 use Rattle.sheet_write.proofs.put_field.Statement.{statement}
 use Rattle.sheet_write.proofs.put_field.Tie as tie
 
