@@ -1,0 +1,2 @@
+-- What the proofs of counting share.
+pub mod Counts

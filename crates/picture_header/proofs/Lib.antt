@@ -1,0 +1,2 @@
+-- What the proofs of the header's reader share.
+pub mod Glyphs

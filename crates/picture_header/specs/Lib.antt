@@ -1,0 +1,2 @@
+-- What the search for the next byte outside comments shows.
+pub mod Bare

@@ -1,0 +1,2 @@
+-- What the proofs of the judges share.
+pub mod Tests

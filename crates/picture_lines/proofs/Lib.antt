@@ -1,0 +1,2 @@
+-- What the proofs of the lines share.
+pub mod Lines

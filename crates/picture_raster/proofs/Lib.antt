@@ -1,0 +1,2 @@
+-- What the proofs of the raster share.
+pub mod Bytes
