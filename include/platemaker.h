@@ -119,6 +119,39 @@ uint32_t pm_write_sheet(size_t width, size_t height, size_t radius, size_t reach
                         size_t psf_len, const uint8_t *gray, size_t gray_len, const uint8_t *dots, size_t dots_len,
                         uint8_t *out, size_t out_len, size_t *length, size_t *offset);
 
+/*
+ * Raw Netpbm files: a PBM file (P4) has the dots of a plate, a PGM file (P5) its gray. One image a file, width and
+ * height 1 to 256. A reader takes every header that the public layout allows, with comments and leading zeros; its dots
+ * or gray may be longer than needed: what lies past the cells stays. *width, *height and *length are written only on
+ * success.
+ */
+
+/* Reads a PBM file: a set bit is a dot; spare bits are passed over. Draws 14 (header, length), 12 (dots too short). */
+uint32_t pm_read_pbm(const uint8_t *file, size_t file_len, uint8_t *dots, size_t dots_len, size_t *width,
+                     size_t *height);
+
+/*
+ * Reads a PGM file: gray is 255 less the stored value. Draws 14 (header, or length at one byte a cell), 15 (a maximum
+ * other than 255), 12 (gray too short), in this order.
+ */
+uint32_t pm_read_pgm(const uint8_t *file, size_t file_len, uint8_t *gray, size_t gray_len, size_t *width,
+                     size_t *height);
+
+/* Writes a PBM file to the front of out, its length to *length. Spare bits are 0. Draws 1, 5, 7, 12 (out too short). */
+uint32_t pm_write_pbm(size_t width, size_t height, const uint8_t *dots, size_t dots_len, uint8_t *out, size_t out_len,
+                      size_t *length);
+
+/* Writes a PGM file to the front of out, its length to *length. The maximum is 255. Draws 1, 5, 12 (out too short). */
+uint32_t pm_write_pgm(size_t width, size_t height, const uint8_t *gray, size_t gray_len, uint8_t *out, size_t out_len,
+                      size_t *length);
+
+/*
+ * The dots of each row, into counts, one number a row. packed is what follows the header of a PBM file: rows of
+ * (width + 7) / 8 bytes, the highest bit the leftmost cell. Spare bits are not counted. Draws 1, 5.
+ */
+uint32_t pm_count_rows(size_t width, size_t height, const uint8_t *packed, size_t packed_len, uint32_t *counts,
+                       size_t counts_len);
+
 #ifdef __cplusplus
 }
 #endif

@@ -44,4 +44,19 @@ extern "C" {
     pub fn pm_write_sheet(width: usize, height: usize, radius: usize, reach: usize, start: usize, psf: *const u8,
                           psf_len: usize, gray: *const u8, gray_len: usize, dots: *const u8, dots_len: usize,
                           out: *mut u8, out_len: usize, length: *mut usize, offset: *mut usize) -> u32;
+
+    pub fn pm_read_pbm(file: *const u8, file_len: usize, dots: *mut u8, dots_len: usize, width: *mut usize,
+                       height: *mut usize) -> u32;
+
+    pub fn pm_read_pgm(file: *const u8, file_len: usize, gray: *mut u8, gray_len: usize, width: *mut usize,
+                       height: *mut usize) -> u32;
+
+    pub fn pm_write_pbm(width: usize, height: usize, dots: *const u8, dots_len: usize, out: *mut u8, out_len: usize,
+                        length: *mut usize) -> u32;
+
+    pub fn pm_write_pgm(width: usize, height: usize, gray: *const u8, gray_len: usize, out: *mut u8, out_len: usize,
+                        length: *mut usize) -> u32;
+
+    pub fn pm_count_rows(width: usize, height: usize, packed: *const u8, packed_len: usize, counts: *mut u32,
+                         counts_len: usize) -> u32;
 }

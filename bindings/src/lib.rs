@@ -242,3 +242,47 @@ pub fn write_sheet(
         )
     }
 }
+
+/// Reads a raw PBM file (P4) to the front of dots, and its width and height; what lies past the cells stays. A set bit
+/// is a dot; spare bits are passed over. Draws 14 (header, length), 12 (dots too short), in this order.
+///
+/// ```
+/// use platemaker::{count_rows, read_pbm, write_pbm};
+///
+/// let (mut dots, mut width, mut height) = ([0; 6], 0, 0);
+/// assert_eq!(read_pbm(b"P4 # two rows\n3 2\n\xa0\x40", &mut dots, &mut width, &mut height), 0);
+/// assert_eq!((dots, width, height), ([1, 0, 1, 0, 1, 0], 3, 2));
+/// let (mut file, mut length, mut counts) = ([0; 16], 0, [0; 2]);
+/// assert_eq!(write_pbm(width, height, &dots, &mut file, &mut length), 0);
+/// assert_eq!(&file[..length], b"P4\n3 2\n\xa0\x40");
+/// assert_eq!(count_rows(width, height, &file[length - 2..length], &mut counts), 0);
+/// assert_eq!(counts, [2, 1]);
+/// ```
+pub fn read_pbm(file: &[u8], dots: &mut [u8], width: &mut usize, height: &mut usize) -> u32 {
+    unsafe { header::pm_read_pbm(file.as_ptr(), file.len(), dots.as_mut_ptr(), dots.len(), width, height) }
+}
+
+/// Reads a raw PGM file (P5) to the front of gray, and its width and height; what lies past the cells stays. Gray is
+/// 255 less the stored value. Draws 14 (header, or length at one byte a cell), 15 (a maximum other than 255), 12 (gray
+/// too short), in this order.
+pub fn read_pgm(file: &[u8], gray: &mut [u8], width: &mut usize, height: &mut usize) -> u32 {
+    unsafe { header::pm_read_pgm(file.as_ptr(), file.len(), gray.as_mut_ptr(), gray.len(), width, height) }
+}
+
+/// Writes a raw PBM file to the front of out, and its length; spare bits are 0. Draws 1, 5, 7, and 12 where out is too
+/// short. The length is written only on success.
+pub fn write_pbm(width: usize, height: usize, dots: &[u8], out: &mut [u8], length: &mut usize) -> u32 {
+    unsafe { header::pm_write_pbm(width, height, dots.as_ptr(), dots.len(), out.as_mut_ptr(), out.len(), length) }
+}
+
+/// Writes a raw PGM file to the front of out, and its length; the maximum is 255. Draws 1, 5, and 12 where out is too
+/// short. The length is written only on success.
+pub fn write_pgm(width: usize, height: usize, gray: &[u8], out: &mut [u8], length: &mut usize) -> u32 {
+    unsafe { header::pm_write_pgm(width, height, gray.as_ptr(), gray.len(), out.as_mut_ptr(), out.len(), length) }
+}
+
+/// The dots of each row, into counts, one number a row. packed is what follows the header of a raw PBM file: rows of
+/// (width + 7) / 8 bytes, the highest bit the leftmost cell. Spare bits are not counted. Draws 1, 5.
+pub fn count_rows(width: usize, height: usize, packed: &[u8], counts: &mut [u32]) -> u32 {
+    unsafe { header::pm_count_rows(width, height, packed.as_ptr(), packed.len(), counts.as_mut_ptr(), counts.len()) }
+}

@@ -10,7 +10,9 @@ ghost use Rattle.model.specs.Interface.{changeOf, triedNumbers, scanNumbers, co
 ghost use Rattle.model.specs.Interface.{offsetAfter, readOver};
 ghost use Rattle.model.specs.Sheet.{valuesOf};
 ghost use Rattle.model.specs.SheetCalls.{writeCall};
+ghost use Rattle.model.specs.PictureCalls.{readPbmCall, readPgmCall, writePbmCall, writePgmCall, countRowsCall};
 use model::Measures;
+use model::Size;
 use platemaker_answers::lay_filled;
 use platemaker_answers::lay_reading;
 use platemaker_answers::lay_squared_error;
@@ -21,6 +23,8 @@ use platemaker_ledgers::lay_scan;
 use platemaker_ledgers::lay_start;
 use platemaker_numbers::judge_slice;
 use platemaker_numbers::stats_of;
+use platemaker_pictures::lay_picture;
+use platemaker_pictures::lay_written;
 
 // The autocorrelation.
 #[no_mangle]
@@ -388,4 +392,107 @@ pub extern "C" fn pm_write_sheet(
     };
     let answer = sheet::write_sheet(measures, psf, gray, dots, out);
     lay_writing(answer, length, offset)
+}
+
+// Reads a PBM.
+#[no_mangle]
+pub extern "C" fn pm_read_pbm(
+    file: &[u8],
+    dots: &mut [u8],
+    width: &mut usize,
+    height: &mut usize,
+) -> u32
+    ensures { λ r. ⌜ (let o = readPbmCall (now (file .entry)) (now (dots .entry)) in
+        (r ≡ status (o .reply))
+        × (now (dots .exit) ≡ o .left)
+        × (now (width .exit) ≡ after (λ z. z .width) (now (width .entry)) (o .reply))
+        × (now (height .exit) ≡ after (λ z. z .height) (now (height .entry)) (o .reply))) ⌝ }
+{
+    let answer = picture::read_pbm(file, dots);
+    lay_picture(answer, width, height)
+}
+
+// Reads a PGM.
+#[no_mangle]
+pub extern "C" fn pm_read_pgm(
+    file: &[u8],
+    gray: &mut [u8],
+    width: &mut usize,
+    height: &mut usize,
+) -> u32
+    ensures { λ r. ⌜ (let o = readPgmCall (now (file .entry)) (now (gray .entry)) in
+        (r ≡ status (o .reply))
+        × (now (gray .exit) ≡ o .left)
+        × (now (width .exit) ≡ after (λ z. z .width) (now (width .entry)) (o .reply))
+        × (now (height .exit) ≡ after (λ z. z .height) (now (height .entry)) (o .reply))) ⌝ }
+{
+    let answer = picture::read_pgm(file, gray);
+    lay_picture(answer, width, height)
+}
+
+// Writes a PBM.
+#[no_mangle]
+pub extern "C" fn pm_write_pbm(
+    width: usize,
+    height: usize,
+    dots: &[u8],
+    out: &mut [u8],
+    length: &mut usize,
+) -> u32
+    ensures { λ r. ⌜ (let o = writePbmCall (record { width = width; height = height })
+        (now (dots .entry)) (now (out .entry)) in
+        (r ≡ status (o .reply))
+        × (now (out .exit) ≡ o .left)
+        × (now (length .exit) ≡ after (λ n. n) (now (length .entry)) (o .reply))) ⌝ }
+{
+    let size = Size {
+        width: width,
+        height: height,
+    };
+    let answer = picture::write_pbm(size, dots, out);
+    lay_written(answer, length)
+}
+
+// Writes a PGM.
+#[no_mangle]
+pub extern "C" fn pm_write_pgm(
+    width: usize,
+    height: usize,
+    gray: &[u8],
+    out: &mut [u8],
+    length: &mut usize,
+) -> u32
+    ensures { λ r. ⌜ (let o = writePgmCall (record { width = width; height = height })
+        (now (gray .entry)) (now (out .entry)) in
+        (r ≡ status (o .reply))
+        × (now (out .exit) ≡ o .left)
+        × (now (length .exit) ≡ after (λ n. n) (now (length .entry)) (o .reply))) ⌝ }
+{
+    let size = Size {
+        width: width,
+        height: height,
+    };
+    let answer = picture::write_pgm(size, gray, out);
+    lay_written(answer, length)
+}
+
+// Counts the dots of each row of a packed raster.
+#[no_mangle]
+pub extern "C" fn pm_count_rows(
+    width: usize,
+    height: usize,
+    packed: &[u8],
+    counts: &mut [u32],
+) -> u32
+    ensures { λ r. ⌜ (let o = countRowsCall (record { width = width; height = height })
+        (now (packed .entry)) (now (counts .entry)) in
+        (r ≡ status (o .reply))
+        × (now (counts .exit) ≡ o .left)) ⌝ }
+{
+    let size = Size {
+        width: width,
+        height: height,
+    };
+    let answer = picture::count_rows(size, packed, counts);
+    lay_filled(answer)
 }

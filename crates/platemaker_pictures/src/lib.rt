@@ -1,0 +1,37 @@
+// The answers of pictures laid out for the C interface: each function answers the status, 0 or the refusal number, and
+// stores the rest behind pointers.
+ghost use mathlib.Core.Path.{_≡_};
+ghost use Rattle.model.specs.PictureCalls.{pictureOf, writtenOf};
+ghost use Rattle.model.specs.Interface.{status, after};
+use model::Picture;
+use model::Written;
+
+// lays the answer of reading a picture out: its status, with width and height
+pub fn lay_picture(answer: Picture, width: &mut usize, height: &mut usize) -> u32
+    ensures { λ r. ⌜ (r ≡ status (pictureOf answer))
+        × (now (width .exit) ≡ after (λ z. z .width) (now (width .entry)) (pictureOf answer))
+        × (now (height .exit) ≡ after (λ z. z .height) (now (height .entry)) (pictureOf answer)) ⌝ }
+{
+    match answer {
+        Picture::Done(size) => {
+            *width = size.width;
+            *height = size.height;
+            0
+        }
+        Picture::Refused(number) => number,
+    }
+}
+
+// the same of writing one, with its length
+pub fn lay_written(answer: Written, length: &mut usize) -> u32
+    ensures { λ r. ⌜ (r ≡ status (writtenOf answer))
+        × (now (length .exit) ≡ after (λ n. n) (now (length .entry)) (writtenOf answer)) ⌝ }
+{
+    match answer {
+        Written::Done(bytes) => {
+            *length = bytes;
+            0
+        }
+        Written::Refused(number) => number,
+    }
+}
