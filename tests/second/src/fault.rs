@@ -63,6 +63,52 @@ pub enum Fault {
     StartKept,
     /// a writer that refuses an output of just the right length
     ExactLengthRefused,
+    /// a comment of a picture's header that ends at LF alone
+    CommentEndsAtLineFeed,
+    /// a comment that counts as white space
+    CommentIsWhiteSpace,
+    /// a comment's line end that delimits the raster
+    CommentDelimits,
+    /// a comment refused in the middle of a word
+    CommentInWordRefused,
+    /// a comment passed over also after the white space that delimits the raster
+    CommentAfterHeader,
+    /// a comment taken before the magic number or in it
+    CommentInMagic,
+    /// VT and FF not taken as white space
+    FormFeedRefused,
+    /// no white space needed after the magic number
+    MagicNotEnded,
+    /// two white spaces taken at the header's end
+    TwoWhiteSpacesTaken,
+    /// a picture's number with a leading zero refused
+    LeadingZeroRefused,
+    /// a picture's number taken modulo a power of 2
+    NumberWraps(u32),
+    /// a byte after the raster taken
+    TrailingByteTaken,
+    /// the length judged at two bytes a cell with a maximum above 255
+    CellByMaximum,
+    /// 15 for 14 with a maximum of 0
+    MaximumZeroTaken,
+    /// 15 for 14 with a maximum above 65,535
+    MaximumAboveTaken,
+    /// 12 before 15
+    RoomBeforeMaximum,
+    /// a slice of just the right length refused
+    ExactRoomRefused,
+    /// what lies past the part written set to 0
+    RestCleared,
+    /// 12 before 7
+    RoomBeforeDots,
+    /// the lowest bit for the leftmost cell
+    LowestBitFirst,
+    /// spare bits counted as dots
+    SpareBitsCounted,
+    /// spare bits written as 1
+    SpareBitsWritten,
+    /// gray read and written as it is stored
+    GrayNotNegated,
     /// two neighbours in the order of the refusals 1 to 9 and 20 to 22 exchanged, this one and the next
     Exchanged(usize),
 }
@@ -75,7 +121,7 @@ impl Fault {
     }
 }
 
-const SINGLE: [Fault; 29] = [
+const SINGLE: [Fault; 54] = [
     Fault::PsfTransposed,
     Fault::Folded,
     Fault::TiesAccepted,
@@ -105,4 +151,29 @@ const SINGLE: [Fault; 29] = [
     Fault::DotsTouched,
     Fault::StartKept,
     Fault::ExactLengthRefused,
+    Fault::CommentEndsAtLineFeed,
+    Fault::CommentIsWhiteSpace,
+    Fault::CommentDelimits,
+    Fault::CommentInWordRefused,
+    Fault::CommentAfterHeader,
+    Fault::CommentInMagic,
+    Fault::FormFeedRefused,
+    Fault::MagicNotEnded,
+    Fault::TwoWhiteSpacesTaken,
+    Fault::LeadingZeroRefused,
+    Fault::NumberWraps(16),
+    Fault::NumberWraps(32),
+    Fault::NumberWraps(64),
+    Fault::TrailingByteTaken,
+    Fault::CellByMaximum,
+    Fault::MaximumZeroTaken,
+    Fault::MaximumAboveTaken,
+    Fault::RoomBeforeMaximum,
+    Fault::ExactRoomRefused,
+    Fault::RestCleared,
+    Fault::RoomBeforeDots,
+    Fault::LowestBitFirst,
+    Fault::SpareBitsCounted,
+    Fault::SpareBitsWritten,
+    Fault::GrayNotNegated,
 ];

@@ -1,7 +1,8 @@
 //! Random input: numbers, plates of all shapes with psf, gray, dots, table and stats, single damages to what a call is
-//! handed, sheets and single damages to a sheet.
+//! handed, sheets and Netpbm files and single damages to these.
 
 use crate::handed::{Call, Cell, Handed, ERROR, MEASURES, OFF, ON, START_DOTS, START_ERROR, STATS, SWAPS};
+use crate::picture::{pbm, pgm, row_bytes, PBM, PGM};
 use crate::plain::{Plate, MAX_COUNT, MAX_ERROR};
 use crate::sheet;
 use std::cmp::Reverse;
@@ -250,6 +251,12 @@ pub fn damaged(random: &mut Random, call: Call) -> Handed {
         (handed.row2, handed.col2) = partner(random, &handed, differs);
         return handed;
     }
+    damage_all(random, call, &mut handed);
+    handed
+}
+
+/// The damages of a call that is handed all else as it has to be.
+fn damage_all(random: &mut Random, call: Call, handed: &mut Handed) {
     let refusals = call.refusals();
     let first = random.below(refusals.len());
     let second = if random.one_in(2) { random.below(refusals.len()) } else { (first + 1) % refusals.len() };
@@ -258,8 +265,7 @@ pub fn damaged(random: &mut Random, call: Call) -> Handed {
     let mut aimed = [refusals[first], refusals[second]][..aims].to_vec();
     aimed.sort_by_key(|&number| Reverse(number));
     aimed.dedup();
-    aimed.into_iter().for_each(|number| damage(random, call, number, &mut handed));
-    handed
+    aimed.into_iter().for_each(|number| damage(random, call, number, handed));
 }
 
 /// Sizes far above every limit, one of them a small number to whoever keeps 32 bits.
@@ -319,10 +325,13 @@ fn outsize(random: &mut Random, handed: &mut Handed) {
     } else {
         handed.width = other(handed.width);
     }
-    let psf_fits = handed.radius < 5 && handed.psf.len() == (2 * handed.radius + 1).pow(2);
-    if handed.width.max(handed.height) == 257 && psf_fits {
-        let cells = handed.cells();
-        (handed.gray, handed.dots) = (vec![9; cells], vec![0; cells]);
+    if handed.width.max(handed.height) != 257 {
+        return;
+    }
+    let cells = handed.cells();
+    (handed.gray, handed.dots) = (vec![9; cells], vec![0; cells]);
+    (handed.packed, handed.counts) = (vec![0; handed.height * row_bytes(handed.width)], vec![0; handed.height]);
+    if handed.radius < 5 && handed.psf.len() == (2 * handed.radius + 1).pow(2) {
         let plate = Plate::new(handed, None);
         handed.table = plate.filtered_error().into_iter().map(|t| t as i32).collect();
         handed.stats = vec![plate.sum_of_squares(), plate.sum_of_squares(), 0, 0, 0, 0];
@@ -340,6 +349,9 @@ fn change_length(random: &mut Random, call: Call, handed: &mut Handed) {
         Call::Autocorrelation => &[0, 5],
         Call::SquaredError | Call::WriteSheet => &[0, 1, 2],
         Call::FilteredError => &[0, 1, 2, 3],
+        Call::WritePbm => &[2],
+        Call::WritePgm => &[1],
+        Call::CountRows => &[6, 7],
         _ => &[0, 1, 2, 3, 4],
     };
     match random.pick(slices) {
@@ -348,7 +360,9 @@ fn change_length(random: &mut Random, call: Call, handed: &mut Handed) {
         2 => resize(random, &mut handed.dots),
         3 => resize(random, &mut handed.table),
         4 => resize(random, &mut handed.stats),
-        _ => resize(random, &mut handed.autocorrelation),
+        5 => resize(random, &mut handed.autocorrelation),
+        6 => resize(random, &mut handed.packed),
+        _ => resize(random, &mut handed.counts),
     }
 }
 
@@ -466,17 +480,179 @@ fn change_number(random: &mut Random, sheet: &mut Vec<u8>) {
     sheet.splice(start..start + digits, random.pick(&NUMBERS).iter().copied());
 }
 
-/// Every damage of one byte at every place of a sheet: replaced, inserted, deleted, and cut off there.
-pub fn all_damages(sheet: &[u8]) -> Vec<Vec<u8>> {
+/// Every damage of one byte at every place of a sheet.
+pub fn all_sheet_damages(sheet: &[u8]) -> Vec<Vec<u8>> {
+    all_damages(sheet, &BYTES)
+}
+
+/// Every damage of one byte at every place of a file, with every byte that there is.
+pub fn all_file_damages(file: &[u8]) -> Vec<Vec<u8>> {
+    all_damages(file, &(0..=255).collect::<Vec<u8>>())
+}
+
+/// At every place a byte replaced and inserted by each of those given, a byte deleted, and all cut off there.
+fn all_damages(whole: &[u8], bytes: &[u8]) -> Vec<Vec<u8>> {
     let mut damaged = Vec::new();
-    for at in 0..=sheet.len() {
-        let (front, back) = sheet.split_at(at);
+    for at in 0..=whole.len() {
+        let (front, back) = whole.split_at(at);
         damaged.push(front.to_vec());
-        damaged.extend(BYTES.iter().map(|&byte| [front, &[byte], back].concat()));
+        damaged.extend(bytes.iter().map(|&byte| [front, &[byte], back].concat()));
         if let Some((_, rest)) = back.split_first() {
             damaged.push([front, rest].concat());
-            damaged.extend(BYTES.iter().map(|&byte| [front, &[byte], rest].concat()));
+            damaged.extend(bytes.iter().map(|&byte| [front, &[byte], rest].concat()));
         }
     }
     damaged
+}
+
+/// What no call for Netpbm files refuses: gray, dots, and a packed raster whose spare bits are any. What a call only
+/// writes holds anything.
+pub fn picture(random: &mut Random, (width, height): (usize, usize)) -> Handed {
+    let cells = width * height;
+    Handed {
+        width,
+        height,
+        gray: gray(random, cells),
+        dots: dots(random, cells),
+        packed: random.bytes(height * row_bytes(width)),
+        counts: (0..height).map(|_| random.any() as u32).collect(),
+        length: random.any() as usize,
+        read_width: random.any() as usize,
+        read_height: random.any() as usize,
+        ..Handed::default()
+    }
+}
+
+/// A size as above, often with a width of about some whole bytes.
+fn picture_size(random: &mut Random) -> (usize, usize) {
+    let (width, height) = size(random);
+    let about = random.pick(&[7, 8, 9, 15, 16, 17, 24, 25]);
+    (if random.one_in(3) { about } else { width }, height)
+}
+
+/// What a writer of Netpbm files, or the count of rows, can be handed, with none, one or two damages; the output is of
+/// about the file's length.
+pub fn damaged_picture(random: &mut Random, call: Call) -> Handed {
+    let size = picture_size(random);
+    let mut handed = picture(random, size);
+    let room = match call {
+        Call::WritePbm => pbm(size.0, size.1, &handed.dots).len(),
+        _ => pgm(size.0, size.1, &handed.gray).len(),
+    };
+    let length = random.pick(&[0, room - 1, room, room, room + 1, room + 50]);
+    handed.out = random.bytes(length);
+    damage_all(random, call, &mut handed);
+    handed
+}
+
+/// The white space of a header.
+const WHITE: [u8; 6] = *b" \r\n\t\x0b\x0c";
+
+/// A Netpbm file with none, one or two damages, and slices to read it into.
+pub fn file(random: &mut Random) -> Handed {
+    let size = picture_size(random);
+    let mut handed = picture(random, size);
+    let magic = random.pick(&[PBM, PGM]);
+    let numbers = header_numbers(random, &handed, magic);
+    let raster = raster(random, &handed, &numbers);
+    handed.bytes = [header(random, magic, &numbers), raster].concat();
+    let damages = random.pick(&[0, 0, 0, 1, 1, 2]);
+    (0..damages).for_each(|_| damage_file(random, &mut handed.bytes));
+    lend_for_file(random, &mut handed);
+    handed
+}
+
+/// Slices for the cells of a file, which hold anything: just long enough, longer, or too short.
+pub fn lend_for_file(random: &mut Random, handed: &mut Handed) {
+    let cells = handed.cells();
+    for slice in [&mut handed.dots, &mut handed.gray] {
+        let length = match random.below(8) {
+            0 => cells - 1,
+            1 => random.below(cells),
+            2..=4 => cells + random.below(9),
+            _ => cells,
+        };
+        *slice = random.bytes(length);
+    }
+}
+
+/// Width, height and the maximum of a PGM file; now and then one of them another number, at a limit or one that whoever
+/// keeps 16, 32 or 64 bits takes for the right one.
+fn header_numbers(random: &mut Random, handed: &Handed, magic: &[u8]) -> Vec<u128> {
+    let mut numbers = vec![handed.width as u128, handed.height as u128];
+    if magic == PGM {
+        numbers.push(if random.one_in(4) { random.pick(&[0, 1, 254, 256, 65_535, 65_536]) } else { 255 });
+    }
+    if random.one_in(6) {
+        let at = random.below(numbers.len());
+        let right = numbers[at];
+        let larger = [1 << 16, 1 << 32, 1 << 64].map(|power| right + power);
+        numbers[at] = random.pick(&[0, right + 1, 256, 257, 10 * right, larger[0], larger[1], larger[2]]);
+    }
+    numbers
+}
+
+/// A header of any form that the layout allows.
+fn header(random: &mut Random, magic: &[u8], numbers: &[u128]) -> Vec<u8> {
+    let plain = random.one_in(3);
+    let mut text = magic.to_vec();
+    for number in numbers {
+        let (white, zeros) = if plain { (1, 0) } else { (random.within(1, 3), random.pick(&[0, 0, 0, 1, 2, 30])) };
+        text.extend((0..white).map(|_| random.pick(&WHITE)));
+        text.extend([&b"0".repeat(zeros), number.to_string().as_bytes()].concat());
+    }
+    let comments = if plain { 0 } else { random.below(4) };
+    let end = text.len();
+    let mut places: Vec<usize> =
+        (0..comments).map(|_| if random.one_in(4) { end } else { random.within(0, end) }).collect();
+    places.sort();
+    for at in places.into_iter().rev() {
+        text.splice(at..at, comment(random));
+    }
+    text.push(random.pick(&WHITE));
+    text
+}
+
+/// A comment: `#`, anything but CR and LF, and one of these.
+fn comment(random: &mut Random) -> Vec<u8> {
+    let mut comment = vec![b'#'];
+    for _ in 0..random.pick(&[0, 1, 3, 9]) {
+        let byte = if random.one_in(3) { random.any() as u8 } else { random.pick(b"#0123456789P \t\x0b\x0c") };
+        comment.push(byte);
+    }
+    comment.retain(|byte| !b"\r\n".contains(byte));
+    comment.push(random.pick(b"\r\n"));
+    comment
+}
+
+/// A raster, now and then one of two bytes a cell, or one that could be taken for a part of the header.
+fn raster(random: &mut Random, handed: &Handed, numbers: &[u128]) -> Vec<u8> {
+    let mut raster = match numbers.get(2) {
+        None => handed.packed.clone(),
+        Some(&maximum) if maximum > 255 && random.one_in(2) => random.bytes(2 * handed.cells()),
+        Some(_) => random.bytes(handed.cells()),
+    };
+    let last = raster.len() - 1;
+    match random.below(8) {
+        0 => raster[0] = random.pick(&WHITE),
+        1 => (raster[last], raster[0]) = (b'\n', b'#'),
+        _ => {}
+    }
+    raster
+}
+
+/// Damages a file at one random place, mostly in its header.
+fn damage_file(random: &mut Random, file: &mut Vec<u8>) {
+    let most = if random.one_in(3) { file.len() } else { file.len().min(16) };
+    let at = random.within(0, most);
+    let byte = if random.one_in(2) { random.any() as u8 } else { random.pick(b"0159 \r\n\t#P4/:+-") };
+    match random.below(6) {
+        0 => file.insert(at, byte),
+        1 => file.truncate(at),
+        2 => file.push(byte),
+        _ if at >= file.len() => drop(file.pop()),
+        3 => file[at] = byte,
+        4 => file.insert(at, file[at]),
+        _ => drop(file.remove(at)),
+    }
 }

@@ -19,10 +19,15 @@ pub enum Call {
     Converge,
     ReadSheet,
     WriteSheet,
+    ReadPbm,
+    ReadPgm,
+    WritePbm,
+    WritePgm,
+    CountRows,
 }
 
 impl Call {
-    pub const ALL: [Call; 11] = [
+    pub const ALL: [Call; 16] = [
         Call::Autocorrelation,
         Call::FilteredError,
         Call::SquaredError,
@@ -34,6 +39,11 @@ impl Call {
         Call::Converge,
         Call::ReadSheet,
         Call::WriteSheet,
+        Call::ReadPbm,
+        Call::ReadPgm,
+        Call::WritePbm,
+        Call::WritePgm,
+        Call::CountRows,
     ];
 
     /// Later calls are those handed a table and a ledger.
@@ -42,14 +52,10 @@ impl Call {
         matches!(self, TryToggle | TrySwap | ToggleScan | SwapScan | Converge)
     }
 
-    /// Whether the call is handed width and height.
-    pub fn is_sized(self) -> bool {
-        self != Call::Autocorrelation
-    }
-
-    /// Whether the call is handed all five measures.
-    pub fn is_measured(self) -> bool {
-        self.is_later() || matches!(self, Call::Start | Call::WriteSheet)
+    /// Whether the call has to do with a plate's numbers alone, and not with a file or its bytes.
+    pub fn is_on_plate(self) -> bool {
+        use Call::*;
+        self.is_later() || matches!(self, Autocorrelation | FilteredError | SquaredError | Start)
     }
 
     /// The cells that an attempt names.
@@ -73,6 +79,11 @@ impl Call {
             Call::ToggleScan | Call::SwapScan | Call::Converge => &[1, 2, 3, 4, 5, 6, 7, 20, 21],
             Call::ReadSheet => &[5, 10, 11, 12],
             Call::WriteSheet => &[1, 2, 3, 4, 5, 7, 12],
+            Call::ReadPbm => &[12, 14],
+            Call::ReadPgm => &[12, 14, 15],
+            Call::WritePbm => &[1, 5, 7, 12],
+            Call::WritePgm => &[1, 5, 12],
+            Call::CountRows => &[1, 5],
         }
     }
 }
@@ -99,11 +110,17 @@ pub struct Handed {
     pub change: i64,
     pub changes: u64,
     pub scans: u64,
+    /// the sheet or the file that is read
     pub bytes: Vec<u8>,
     pub measures: Vec<usize>,
     pub out: Vec<u8>,
     pub length: usize,
     pub offset: usize,
+    /// the width and height that a file has
+    pub read_width: usize,
+    pub read_height: usize,
+    pub packed: Vec<u8>,
+    pub counts: Vec<u32>,
 }
 
 impl Handed {

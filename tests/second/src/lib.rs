@@ -1,10 +1,11 @@
-//! A second implementation of document 01, written from that document alone, and what the tests need to hold the static
-//! library and the program `settle` against it.
+//! A second implementation of document 01 and of request C-11, written from these texts and the public pages on Netpbm
+//! files alone, and what the tests need to hold the static library and the program `settle` against it.
 
 pub mod fault;
 pub mod generate;
 pub mod handed;
 pub mod library;
+pub mod picture;
 pub mod plain;
 pub mod sheet;
 pub mod vector;

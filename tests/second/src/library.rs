@@ -75,8 +75,10 @@ macro_rules! lent {
 }
 
 lent! {
-    psf: u8, gray: u8, dots: u8, table: i32, stats: i64, autocorrelation: i32, bytes: u8, measures: usize, out: u8;
-    error: i64, change: i64, changes: u64, scans: u64, length: usize, offset: usize
+    psf: u8, gray: u8, dots: u8, table: i32, stats: i64, autocorrelation: i32, bytes: u8, measures: usize, out: u8,
+    packed: u8, counts: u32;
+    error: i64, change: i64, changes: u64, scans: u64, length: usize, offset: usize,
+    read_width: usize, read_height: usize
 }
 
 /// Makes a call of the library: answers what it returned and whether the guards are as they were, and leaves in the record
@@ -93,7 +95,8 @@ fn make(call: Call, handed: &Handed, lent: &mut Lent) -> u32 {
     let m = Measures { width, height, radius, reach, start: kind };
     let (psf, gray, dots) = (lent.psf.lend(), lent.gray.lend(), lent.dots.lend());
     let (table, stats, change) = (lent.table.lend(), lent.stats.lend(), lent.change.number());
-    let (length, offset) = (lent.length.number(), lent.offset.number());
+    let (bytes, out, length, offset) = (lent.bytes.lend(), lent.out.lend(), lent.length.number(), lent.offset.number());
+    let (read_width, read_height) = (lent.read_width.number(), lent.read_height.number());
     match call {
         Call::Autocorrelation => autocorrelation(radius, psf, lent.autocorrelation.lend()),
         Call::FilteredError => filtered_error(width, height, radius, psf, gray, dots, table),
@@ -104,8 +107,13 @@ fn make(call: Call, handed: &Handed, lent: &mut Lent) -> u32 {
         Call::ToggleScan => toggle_scan(m, psf, gray, dots, table, stats, lent.changes.number()),
         Call::SwapScan => swap_scan(m, psf, gray, dots, table, stats, lent.changes.number()),
         Call::Converge => converge(m, psf, gray, dots, table, stats, lent.scans.number()),
-        Call::ReadSheet => read_sheet(lent.bytes.lend(), psf, gray, dots, lent.measures.lend(), offset),
-        Call::WriteSheet => write_sheet(m, psf, gray, dots, lent.out.lend(), length, offset),
+        Call::ReadSheet => read_sheet(bytes, psf, gray, dots, lent.measures.lend(), offset),
+        Call::WriteSheet => write_sheet(m, psf, gray, dots, out, length, offset),
+        Call::ReadPbm => read_pbm(bytes, dots, read_width, read_height),
+        Call::ReadPgm => read_pgm(bytes, gray, read_width, read_height),
+        Call::WritePbm => write_pbm(width, height, dots, out, length),
+        Call::WritePgm => write_pgm(width, height, gray, out, length),
+        Call::CountRows => count_rows(width, height, lent.packed.lend(), lent.counts.lend()),
     }
 }
 

@@ -1,8 +1,10 @@
-//! The calls of document 01 save those for sheets, from its plain sums. The plate here is document 01's plain plate: it has
-//! no table. Wherever a table or a squared error is wanted, the sum is taken over the dots.
+//! The calls of document 01 save those for sheets, from its plain sums, and the judging of what any call is handed. The
+//! plate here is document 01's plain plate: it has no table. Wherever a table or a squared error is wanted, the sum is
+//! taken over the dots.
 
 use crate::fault::Fault;
 use crate::handed::{Call, Cell, Handed, ERROR, OFF, ON, START_DOTS, START_ERROR, STATS, SWAPS};
+use crate::picture::row_bytes;
 use std::cmp::Reverse;
 
 /// The largest squared error.
@@ -360,44 +362,50 @@ impl Second {
         let done = match call {
             Call::ReadSheet => self.read_sheet(handed),
             Call::WriteSheet => self.write_sheet(handed),
+            Call::ReadPbm => self.read_pbm(handed),
+            Call::ReadPgm => self.read_pgm(handed),
+            Call::WritePbm => self.write_pbm(handed),
+            Call::WritePgm => self.write_pgm(handed),
+            Call::CountRows => self.count_rows(handed),
             _ => self.judge(call, handed).map(|()| self.work(call, handed)),
         };
         done.err().unwrap_or(0)
     }
 
-    fn has(&self, fault: Fault) -> bool {
+    pub fn has(&self, fault: Fault) -> bool {
         self.fault == Some(fault)
     }
 
-    /// Judges what a call is handed: least number first, then the state.
+    /// Judges what a call is handed: least number first, then the state. A call judges only what it is handed.
     pub fn judge(&self, call: Call, handed: &Handed) -> Result<(), u32> {
         let mut order = ORDER;
         if let Some(Fault::Exchanged(at)) = self.fault {
             order.swap(at, at + 1);
         }
-        order.into_iter().try_for_each(|number| refuse(number, self.draws(number, call, handed)))
+        let mut judged = order.into_iter().filter(|number| call.refusals().contains(number));
+        judged.try_for_each(|number| refuse(number, self.draws(number, call, handed)))
     }
 
-    /// Whether a call draws this number, none of those before it being drawn. A call judges only what it is handed.
+    /// Whether a call draws this number, one of its own, none of those before it being drawn.
     fn draws(&self, number: u32, call: Call, handed: &Handed) -> bool {
         match number {
-            1 => call.is_sized() && (self.outside(handed.width) || self.outside(handed.height)),
+            1 => self.outside(handed.width) || self.outside(handed.height),
             2 => handed.radius > 3,
-            3 => call.is_measured() && handed.reach > 6,
-            4 => call.is_measured() && handed.start > 2,
+            3 => handed.reach > 6,
+            4 => handed.start > 2,
             5 => lengths(call, handed).iter().any(|(length, measure)| length != measure),
-            6 => call != Call::WriteSheet && self.sum_outside(&handed.psf),
+            6 => self.sum_outside(&handed.psf),
             7 => self.judges_dots(call, handed) && handed.dots.iter().any(|&dot| dot > 1),
             8 => call.named(handed).iter().any(|&(row, col)| row >= handed.height || col >= handed.width),
-            9 => call == Call::TrySwap && self.beyond_reach(handed),
-            20 => call.is_later() && self.table_differs(handed),
-            21 => call.is_later() && self.ledger_differs(&Plate::new(handed, self.fault), &handed.stats),
-            _ => call == Call::TrySwap && equal_dots(handed),
+            9 => self.beyond_reach(handed),
+            20 => self.table_differs(handed),
+            21 => self.ledger_differs(&Plate::new(handed, self.fault), &handed.stats),
+            _ => equal_dots(handed),
         }
     }
 
     /// 1: width or height outside 1 to 256.
-    fn outside(&self, size: usize) -> bool {
+    pub fn outside(&self, size: usize) -> bool {
         let largest = if self.has(Fault::Size257Taken) { 257 } else { 256 };
         size < 1 || size > largest
     }
@@ -409,12 +417,9 @@ impl Second {
         sum == 0 || sum > largest
     }
 
-    /// 7 is for a start of kind 2, table, E, writer, and all later calls.
+    /// A start judges the dots where it takes them.
     fn judges_dots(&self, call: Call, handed: &Handed) -> bool {
-        match call {
-            Call::Start => handed.start == 2 || self.has(Fault::DotsAlwaysJudged),
-            _ => call.is_sized(),
-        }
+        call != Call::Start || handed.start == 2 || self.has(Fault::DotsAlwaysJudged)
     }
 
     /// 9: swap of a cell with itself or with a row or column offset beyond the reach.
@@ -520,12 +525,19 @@ fn equal_dots(handed: &Handed) -> bool {
 /// The slices that a call is lent, each with its length and its measure. Called when 1 and 2 are not drawn.
 fn lengths(call: Call, handed: &Handed) -> Vec<(usize, usize)> {
     let square = |side: usize| side * side;
-    let psf = (handed.psf.len(), square(2 * handed.radius + 1));
-    if call == Call::Autocorrelation {
-        return vec![psf, (handed.autocorrelation.len(), square(4 * handed.radius + 1))];
+    let psf = || (handed.psf.len(), square(2 * handed.radius + 1));
+    let gray = || (handed.gray.len(), handed.cells());
+    let dots = || (handed.dots.len(), handed.cells());
+    let packed = || (handed.packed.len(), handed.height * row_bytes(handed.width));
+    match call {
+        Call::Autocorrelation => return vec![psf(), (handed.autocorrelation.len(), square(4 * handed.radius + 1))],
+        Call::WritePbm => return vec![dots()],
+        Call::WritePgm => return vec![gray()],
+        Call::CountRows => return vec![packed(), (handed.counts.len(), handed.height)],
+        _ => {}
     }
     let cells = handed.cells();
-    let mut lengths = vec![psf, (handed.gray.len(), cells), (handed.dots.len(), cells)];
+    let mut lengths = vec![psf(), gray(), dots()];
     if call.is_later() || matches!(call, Call::Start | Call::FilteredError) {
         lengths.push((handed.table.len(), cells));
     }

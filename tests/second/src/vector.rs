@@ -17,6 +17,7 @@ pub fn hand(left: &str, handed: &mut Handed) -> Result<Call, String> {
     let call = name(fields.next().unwrap_or_default(), handed)?;
     fields.try_for_each(|field| set(field, handed))?;
     *handed = Handed { error: 7, change: 7, changes: 7, scans: 7, length: 7, offset: 7, ..take(handed) };
+    (handed.read_width, handed.read_height) = (7, 7);
     Ok(call)
 }
 
@@ -42,6 +43,11 @@ fn name(words: &str, handed: &mut Handed) -> Result<Call, String> {
         "converge" => (Call::Converge, 0),
         "read-sheet" => (Call::ReadSheet, 0),
         "write-sheet" => (Call::WriteSheet, 0),
+        "read-pbm" => (Call::ReadPbm, 0),
+        "read-pgm" => (Call::ReadPgm, 0),
+        "write-pbm" => (Call::WritePbm, 0),
+        "write-pgm" => (Call::WritePgm, 0),
+        "count-rows" => (Call::CountRows, 0),
         _ => return Err(format!("there is no call {call}")),
     };
     if cells.len() != named {
@@ -57,6 +63,7 @@ fn set(field: &str, handed: &mut Handed) -> Result<(), String> {
     let (name, values) = field.split_once(' ').unwrap_or((field, ""));
     match name {
         "plate" => set_measures(values, handed)?,
+        "size" => set_size(values, handed)?,
         "psf" => handed.psf = numbers(values)?,
         "gray" => handed.gray = numbers(values)?,
         "dots" => handed.dots = numbers(values)?,
@@ -66,6 +73,8 @@ fn set(field: &str, handed: &mut Handed) -> Result<(), String> {
         "measures" => handed.measures = numbers(values)?,
         "bytes" => handed.bytes = bytes(values)?,
         "out" => handed.out = bytes(values)?,
+        "packed" => handed.packed = numbers(values)?,
+        "counts" => handed.counts = numbers(values)?,
         _ => return Err(format!("there is no field {name}")),
     }
     Ok(())
@@ -76,6 +85,14 @@ fn set_measures(values: &str, handed: &mut Handed) -> Result<(), String> {
         return Err("a plate has five measures".to_string());
     };
     [handed.width, handed.height, handed.radius, handed.reach, handed.start] = measures;
+    Ok(())
+}
+
+fn set_size(values: &str, handed: &mut Handed) -> Result<(), String> {
+    let Ok(size) = <[usize; 2]>::try_from(numbers(values)?) else {
+        return Err("a size is a width and a height".to_string());
+    };
+    [handed.width, handed.height] = size;
     Ok(())
 }
 
@@ -91,6 +108,10 @@ fn written(call: Call) -> &'static [&'static str] {
         Call::Converge => &["scans", "dots", "table", "stats"],
         Call::ReadSheet => &["offset", "psf", "gray", "dots", "measures"],
         Call::WriteSheet => &["length", "offset", "out"],
+        Call::ReadPbm => &["size", "dots"],
+        Call::ReadPgm => &["size", "gray"],
+        Call::WritePbm | Call::WritePgm => &["length", "out"],
+        Call::CountRows => &["counts"],
     }
 }
 
@@ -103,6 +124,7 @@ fn shown(field: &str, handed: &Handed) -> String {
         "scans" => list(field, &[handed.scans]),
         "length" => list(field, &[handed.length]),
         "offset" => list(field, &[handed.offset]),
+        "size" => list(field, &[handed.read_width, handed.read_height]),
         "psf" => list(field, &handed.psf),
         "gray" => list(field, &handed.gray),
         "dots" => list(field, &handed.dots),
@@ -110,6 +132,7 @@ fn shown(field: &str, handed: &Handed) -> String {
         "stats" => list(field, &handed.stats),
         "autocorrelation" => list(field, &handed.autocorrelation),
         "measures" => list(field, &handed.measures),
+        "counts" => list(field, &handed.counts),
         "out" if handed.out.is_empty() => field.to_string(),
         "out" => format!("{field} {}", text(&handed.out)),
         _ => unreachable!("{field} is written by no call"),

@@ -12,6 +12,7 @@ use second::fault::Fault;
 use second::generate::{self, Random};
 use second::handed::{Call, Handed, ERROR, MEASURES, OFF, ON, START_DOTS, START_ERROR};
 use second::library;
+use second::picture::{self, row_bytes};
 use second::plain::{self, Plate, Second};
 use second::sheet;
 use std::collections::BTreeMap;
@@ -20,6 +21,8 @@ use std::thread::Builder;
 
 /// The rounds of the default.
 const ROUNDS: u64 = 2000;
+/// The Netpbm files read in a round.
+const FILES: usize = 12;
 /// The stack of a thread, in bytes.
 const STACK: usize = 8 << 20;
 /// The most differences that are shown in full.
@@ -85,9 +88,9 @@ impl Run {
         }
     }
 
-    /// One round: each call once on a plate, a list of calls now and then, sheets read and written.
+    /// One round: each call once on a plate, a list of calls now and then, sheets and Netpbm files read and written.
     fn round(&mut self) {
-        for call in Call::ALL.into_iter().filter(|&call| !matches!(call, Call::ReadSheet | Call::WriteSheet)) {
+        for call in Call::ALL.into_iter().filter(|&call| call.is_on_plate()) {
             let mut handed = generate::damaged(&mut self.random, call);
             self.compare(call, &mut handed);
         }
@@ -96,12 +99,15 @@ impl Run {
         }
         (0..4).for_each(|_| self.read_a_sheet());
         self.write_a_sheet();
+        (0..FILES).for_each(|_| self.read_a_file());
+        self.write_pictures();
     }
 
     /// A list of calls, each handed what the last one left.
     fn list(&mut self) {
         let size = generate::size(&mut self.random);
         let mut handed = generate::handed(&mut self.random, size);
+        self.dots_of_rows(&handed);
         if self.compare(Call::Start, &mut handed) > 0 {
             return;
         }
@@ -117,6 +123,24 @@ impl Run {
             let answer = self.compare(call, &mut handed);
             self.demand(call, answer, &first, &before, &handed);
         }
+        self.dots_of_rows(&handed);
+    }
+
+    /// The dots of each row, counted from the packed bytes of the plate; their sum is the dot total of its ledger.
+    fn dots_of_rows(&mut self, handed: &Handed) {
+        let mut packed = handed.clone();
+        packed.out = picture::pbm(handed.width, handed.height, &vec![0; handed.cells()]);
+        let answer = self.compare(Call::WritePbm, &mut packed);
+        let raster = packed.height * row_bytes(packed.width);
+        packed.packed = packed.out[packed.out.len() - raster..].to_vec();
+        packed.counts = vec![9; packed.height];
+        let counted = self.compare(Call::CountRows, &mut packed);
+        let rows = packed.dots.chunks(packed.width).map(|row| row.iter().map(|&dot| u32::from(dot)).sum::<u32>());
+        let same = rows.eq(packed.counts.iter().copied());
+        self.expect("the counts are the dots of each row", (answer, counted) == (0, 0) && same);
+        let sum: i64 = packed.counts.iter().map(|&count| i64::from(count)).sum();
+        let total = packed.stats[START_DOTS] + packed.stats[ON] - packed.stats[OFF];
+        self.expect("the sum of the counts is the dot total of the ledger", sum == total);
     }
 
     /// Demand 3 after one call of a list, by fresh sums.
@@ -181,13 +205,84 @@ impl Run {
         self.expect("a sheet written is read back", answer == 0 && same && back.measures == measures);
     }
 
+    /// Reads a Netpbm file with none, one or two damages, as either kind.
+    fn read_a_file(&mut self) {
+        let handed = generate::file(&mut self.random);
+        self.read_as_both(&handed);
+    }
+
+    fn read_as_both(&mut self, handed: &Handed) {
+        for call in [Call::ReadPbm, Call::ReadPgm] {
+            self.compare(call, &mut handed.clone());
+        }
+    }
+
+    /// Writes Netpbm files into outputs of about their length, and reads them back; counts the dots of each row.
+    fn write_pictures(&mut self) {
+        for call in [Call::WritePbm, Call::WritePgm, Call::CountRows] {
+            let mut handed = generate::damaged_picture(&mut self.random, call);
+            self.write_picture_and_read(call, &mut handed);
+        }
+    }
+
+    fn write_picture_and_read(&mut self, call: Call, handed: &mut Handed) {
+        if self.compare(call, handed) > 0 || call == Call::CountRows {
+            return;
+        }
+        let mut back = handed.clone();
+        back.bytes = handed.out[..handed.length].to_vec();
+        [&mut back.gray, &mut back.dots].into_iter().for_each(|buffer| buffer.fill(9));
+        let reader = if call == Call::WritePbm { Call::ReadPbm } else { Call::ReadPgm };
+        let answer = self.compare(reader, &mut back);
+        let same = if reader == Call::ReadPbm { back.dots == handed.dots } else { back.gray == handed.gray };
+        let size = (back.read_width, back.read_height) == (handed.width, handed.height);
+        self.expect("a Netpbm file written is read back", answer == 0 && same && size);
+    }
+
+    /// Small Netpbm files with every damage at every place.
+    fn sweep_files(&mut self) {
+        const FILES: [(&[u8], usize, usize); 4] = [
+            (b"P4 9 2\n\xa5\x80\x23\x7f", 9, 2),
+            (b"P4#a\r\n03 2#9\n\n\xe0\x1f", 3, 2),
+            (b"P5 2 1 255\n\x0a\xff", 2, 1),
+            (b"P5\t1#7\r 2 #\r0255 #\r", 1, 2),
+        ];
+        for (file, width, height) in FILES {
+            let mut handed = generate::picture(&mut self.random, (width, height));
+            for bytes in generate::all_file_damages(file) {
+                handed.bytes = bytes;
+                generate::lend_for_file(&mut self.random, &mut handed);
+                self.read_as_both(&handed);
+            }
+        }
+    }
+
+    /// The largest Netpbm files, numbers of very many digits and a long comment.
+    fn large_files(&mut self) {
+        for size in [(256, 256), (255, 256), (256, 255), (249, 256), (1, 256), (256, 1)] {
+            for call in [Call::WritePbm, Call::WritePgm, Call::CountRows] {
+                let mut handed = generate::picture(&mut self.random, size);
+                handed.out = vec![7; 66_000];
+                self.write_picture_and_read(call, &mut handed);
+            }
+        }
+        for (byte, end) in [(b"0", ""), (b"1", ""), (b"#", "\r")] {
+            let long = [&byte.repeat(100_000), end.as_bytes()].concat();
+            let mut handed = generate::picture(&mut self.random, (1, 1));
+            handed.bytes = [b"P4 ", long.as_slice(), b"1 1\n\x80"].concat();
+            self.compare(Call::ReadPbm, &mut handed);
+            handed.bytes = [b"P5 1 1 ", long.as_slice(), b"255\n\x80"].concat();
+            self.compare(Call::ReadPgm, &mut handed);
+        }
+    }
+
     /// Three small sheets, one of each kind of start, with every damage at every place.
     fn sweep(&mut self) {
         for start in 0..3 {
             let mut handed = generate::handed(&mut self.random, (2, 2));
             (handed.radius, handed.psf, handed.start) = (start % 2, generate::psf(&mut self.random, start % 2), start);
             handed.measures = vec![77; MEASURES];
-            for bytes in generate::all_damages(&sheet::text(&handed, start)) {
+            for bytes in generate::all_sheet_damages(&sheet::text(&handed, start)) {
                 let mut damaged = Handed { bytes, ..handed.clone() };
                 self.compare(Call::ReadSheet, &mut damaged);
             }
@@ -223,6 +318,7 @@ impl Run {
         }
         self.extreme();
         self.large_sheets();
+        self.large_files();
         for gray in 0..=255 {
             let mut handed = generate::handed(&mut self.random, (17, 33));
             (handed.start, handed.radius, handed.psf) = (1, 0, vec![1]);
@@ -339,6 +435,7 @@ fn differential(seed: u64, rounds: u64) -> (u64, u64) {
     run.sums();
     (0..rounds).for_each(|_| run.round());
     run.sweep();
+    run.sweep_files();
     run.large();
     run.at_the_same_time();
     run.coverage();
