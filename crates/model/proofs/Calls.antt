@@ -1,8 +1,8 @@
 -- What a call answers and leaves where it is refused, and where it is not.
 --   no-result, same-result, same-refusal  what a reply says, it says alone
---   is-refused, is-done      the number that the judge found, and the buffer as it was; or the outcome
---   was-taken, was-done      a call that answers a value was not refused, and the value is the outcome's
---   both-refused, both-done  the first two, of a call that is lent dots and table
+--   is-refused, is-done                   the number that the judge found, and the buffer as it was; or the outcome
+--   was-taken, was-done                   a call that answers a value was not refused, and the value is the outcome's
+--   both-refused, both-done               the first two, of a call that is lent dots and table
 use mathlib.Core.Path.{_≡_, refl, sym, _∙_, ap, subst}
 use mathlib.Core.List.{List}
 use Prim.Native.Nat.{ℕ, zero, suc}

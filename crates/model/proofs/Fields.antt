@@ -16,7 +16,7 @@ use Rattle.model.specs.declared.Found.{Found}
 use Rattle.model.specs.Basic.{All}
 use Rattle.model.specs.Text.{isDigit, capTo, growTo}
 use Rattle.model.specs.Netpbm.{isSpace, opensComment, decimalFrom}
-use Rattle.model.specs.PictureHeader.{Glyph, glyphsAt, found, spacesFrom, mostValue, numberFrom, fieldNext}
+use Rattle.model.specs.PictureHeader.{Glyph, glyphsAt, found, spacesFrom, mostValue, numberFrom, numberNext}
 use Rattle.model.proofs.Text.{digit-range}
 use Rattle.model.proofs.Glyphs.{bytesOf, lastNext, walk}
 
@@ -139,11 +139,11 @@ pub record Field (l gap decimal rest : List Glyph) : Type 0 where
 
 module _ (s : List ℕ) where
   pub field-is : (f : Found) {gap decimal rest : List Glyph} → Field (glyphsAt s (f .at)) gap decimal rest
-      → (fieldNext s f
+      → (numberNext s f
       ≡ found (f .some && (any false gap && any false decimal)) (capTo mostValue (decimalFrom 0 (bytesOf decimal)))
       (lastNext (lastNext (f .at) gap) decimal))
       × (glyphsAt s (lastNext (lastNext (f .at) gap) decimal) ≡ rest)
-  unfolding fieldNext
+  unfolding numberNext
   field-is f {gap} {decimal} {rest} h =
       let at = lastNext (f .at) gap in
       let there : glyphsAt s at ≡ decimal ++ rest = walk s gap (f .at) (h .text) in

@@ -73,7 +73,7 @@ pub record Cut (at : ℕ) (l : List ℕ) (gs : List Glyph) (g : Glyph) (rest : L
   pub further : rest ≡ glyphs false (g .next) tail
 
 -- the same within a comment: first what is left of it
-record Within (at : ℕ) (l : List ℕ) (g : Glyph) (rest : List Glyph) : Type 0 where
+record Commented (at : ℕ) (l : List ℕ) (g : Glyph) (rest : List Glyph) : Type 0 where
   left : List ℕ
   silent : All (λ b. endsComment b ≡ false) left
   end : ℕ
@@ -85,13 +85,13 @@ record Within (at : ℕ) (l : List ℕ) (g : Glyph) (rest : List Glyph) : Type 0
 abbrev First : (l : List ℕ) (g : Glyph) (rest : List Glyph) → Type 0
 First l g rest =
     ((at : ℕ) → glyphs false at l ≡ g ∷ rest → Cut at l [] g rest)
-    × ((at : ℕ) → glyphs true at l ≡ g ∷ rest → Within at l g rest)
+    × ((at : ℕ) → glyphs true at l ≡ g ∷ rest → Commented at l g rest)
 
 none-first : {A : Type 0} {g : Glyph} {rest : List Glyph} → [] ≡ g ∷ rest → A
 none-first e = absurd (let z : _≡_ {A = ℕ} 0 1 = cc in omega arith)
 
 -- a comment before it
-opened : (x at : ℕ) {xs : List ℕ} {g : Glyph} {rest : List Glyph} → opensComment x ≡ true → Within (at + 1) xs g rest
+opened : (x at : ℕ) {xs : List ℕ} {g : Glyph} {rest : List Glyph} → opensComment x ≡ true → Commented (at + 1) xs g rest
     → Cut at (x ∷ xs) [] g rest
 opened x at {xs} {g} o w =
     let c = w .first in
@@ -129,7 +129,7 @@ module _ (x : ℕ) (xs : List ℕ) (g : Glyph) (rest : List Glyph) (ih : First x
       }
 
   -- within one: the byte ends it or not
-  inside : (b : Bool) → endsComment x ≡ b → glyphs true at (x ∷ xs) ≡ g ∷ rest → Within at (x ∷ xs) g rest
+  inside : (b : Bool) → endsComment x ≡ b → glyphs true at (x ∷ xs) ≡ g ∷ rest → Commented at (x ∷ xs) g rest
   unfolding glyphs
   inside true o e =
       record {

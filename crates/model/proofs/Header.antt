@@ -1,8 +1,8 @@
 -- Laws of headers, both ways between the layout's words and the reader: once for a header of any number of values, and
 -- then for those of PBM and PGM.
 --   pbm-header-is-read, pgm-header-is-read  a header by the layout is read, whatever raster follows
---   PbmHead, pbm-read-is-header             what is read is a header by the layout
---   PgmHead, pgm-read-is-header
+--   PbmStands, pbm-read-is-header           what is read is a header by the layout
+--   PgmStands, pgm-read-is-header
 use mathlib.Core.Bool.{true, false, true≢false}
 use mathlib.Core.List.{List, [], _∷_, _++_, map, append-assoc}
 use mathlib.Core.Path.{_≡_, refl, sym, _∙_, ap, ap₂, subst}
@@ -19,7 +19,7 @@ use Rattle.model.specs.PictureHeader.{glyphs, found, mostValue, magic, e
 use Rattle.model.proofs.Text.{and-true}
 use Rattle.model.proofs.Glyphs.{pieces-read, Cut, cut}
 use Rattle.model.proofs.Fields.{space-no-comment}
-use Rattle.model.proofs.Numerals.{fieldsNext, fieldValues, numerals-read, Read, numbers-read}
+use Rattle.model.proofs.Numerals.{numbersNext, numberValues, numerals-read, NumbersRead, numbers-read}
 
 -- ---- whole headers, of any number of values
 magic-read : (kind : ℕ) (t : List ℕ) → magic (80 ∷ kind ∷ t) kind .some ≡ true
@@ -36,8 +36,8 @@ magic-stands kind (x ∷ y ∷ t) e =
 abbrev Reads : (kind : ℕ) (values s : List ℕ) (at : ℕ) → Type 0
 Reads kind values s at =
     let f = magic s kind in
-    (endNext s (fieldsNext s (length values) f) ≡ found true 0 at)
-    × (fieldValues s (length values) f ≡ map (capTo mostValue) values)
+    (endNext s (numbersNext s (length values) f) ≡ found true 0 at)
+    × (numberValues s (length values) f ≡ map (capTo mostValue) values)
 
 last-read : (at b : ℕ) (l : List ℕ) → isSpace b ≡ true
     → glyphs false at (b ∷ l) ≡ record { byte = b; next = at + 1 } ∷ glyphs false (at + 1) l
@@ -75,13 +75,13 @@ record Stands (kind n : ℕ) (s : List ℕ) : Type 0 where
   raster : List ℕ
   text : s ≡ head ++ raster
   is-header : IsHeader kind values head
-  place : endNext s (fieldsNext s n (magic s kind)) .at ≡ length head
-  same : fieldValues s n (magic s kind) ≡ map (capTo mostValue) values
+  place : endNext s (numbersNext s n (magic s kind)) .at ≡ length head
+  same : numberValues s n (magic s kind) ≡ map (capTo mostValue) values
 
-header-stands : (kind n : ℕ) (s : List ℕ) → endNext s (fieldsNext s n (magic s kind)) .some ≡ true → Stands kind n s
+header-stands : (kind n : ℕ) (s : List ℕ) → endNext s (numbersNext s n (magic s kind)) .some ≡ true → Stands kind n s
 header-stands kind n s e = go (numbers-read s n (magic s kind) e)
   where
-    whole : (r : Read s n (magic s kind)) → Cut 2 (drop 2 s) (r .shown) (r .last) (r .rest) → Stands kind n s
+    whole : (r : NumbersRead s n (magic s kind)) → Cut 2 (drop 2 s) (r .shown) (r .last) (r .rest) → Stands kind n s
     whole r c =
         let inner = piecesText (c .pieces) in
         record {
@@ -107,7 +107,7 @@ header-stands kind n s e = go (numbers-read s n (magic s kind) e)
           same = r .values;
         }
 
-    go : Read s n (magic s kind) → Stands kind n s
+    go : NumbersRead s n (magic s kind) → Stands kind n s
     go r = whole r (cut (r .shown) (r .last) (r .rest) 2 (drop 2 s) (r .text))
 
 -- the header by what is found of its end and by its values: a PBM has no third, and its maximum is 1
@@ -138,7 +138,7 @@ pub pbm-header-is-read : {w h : ℕ} {head : List ℕ} → IsHeader 52 (w ∷ h 
 unfolding pbmHeader
 pbm-header-is-read p raster = let (end, values) = header-read p raster in ap₂ headerOf end values
 
-pub record PbmHead (s : List ℕ) : Type 0 where
+pub record PbmStands (s : List ℕ) : Type 0 where
   pub width : ℕ
   pub height : ℕ
   pub head : List ℕ
@@ -149,11 +149,11 @@ pub record PbmHead (s : List ℕ) : Type 0 where
   pub width-is : pbmHeader s .width ≡ capTo 65536 width
   pub height-is : pbmHeader s .height ≡ capTo 65536 height
 
-pub pbm-read-is-header : (s : List ℕ) → pbmHeader s .good ≡ true → PbmHead s
+pub pbm-read-is-header : (s : List ℕ) → pbmHeader s .good ≡ true → PbmStands s
 unfolding pbmHeader
 pbm-read-is-header s e = go (header-stands 52 2 s e)
   where
-    go : Stands 52 2 s → PbmHead s
+    go : Stands 52 2 s → PbmStands s
     go r =
         let (w, more, p, same-w, t) = first-value (capTo mostValue) (r .values) (r .same) in
         let (h, none, q, same-h, u) = first-value (capTo mostValue) more t in
@@ -184,7 +184,7 @@ pub pgm-header-is-read : {w h m : ℕ} {head : List ℕ} → IsHeader 53 (w ∷ 
 unfolding pgmHeader
 pgm-header-is-read p raster = let (end, values) = header-read p raster in ap₂ headerOf end values
 
-pub record PgmHead (s : List ℕ) : Type 0 where
+pub record PgmStands (s : List ℕ) : Type 0 where
   pub width : ℕ
   pub height : ℕ
   pub maximum : ℕ
@@ -197,11 +197,11 @@ pub record PgmHead (s : List ℕ) : Type 0 where
   pub height-is : pgmHeader s .height ≡ capTo 65536 height
   pub maximum-is : pgmHeader s .maximum ≡ capTo 65536 maximum
 
-pub pgm-read-is-header : (s : List ℕ) → pgmHeader s .good ≡ true → PgmHead s
+pub pgm-read-is-header : (s : List ℕ) → pgmHeader s .good ≡ true → PgmStands s
 unfolding pgmHeader
 pgm-read-is-header s e = go (header-stands 53 3 s e)
   where
-    go : Stands 53 3 s → PgmHead s
+    go : Stands 53 3 s → PgmStands s
     go r =
         let (w, more, p, same-w, t) = first-value (capTo mostValue) (r .values) (r .same) in
         let (h, least, q, same-h, u) = first-value (capTo mostValue) more t in

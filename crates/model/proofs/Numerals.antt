@@ -1,6 +1,6 @@
 -- Laws of the numbers of a header, one after the other, both ways between the layout's words and the reader.
---   numerals-read       numerals by the layout before a last white space are read, with their values
---   Read, numbers-read  numbers that are read, and a last white space, are numerals by the layout
+--   numerals-read              numerals by the layout before a last white space are read, with their values
+--   NumbersRead, numbers-read  numbers that are read, and a last white space, are numerals by the layout
 use mathlib.Core.Bool.{Bool, true, false, true≢false}
 use mathlib.Core.List.{List, [], _∷_, _++_, map, map-append, append-assoc}
 use mathlib.Core.Path.{_≡_, refl, sym, _∙_, ap, ap₂, subst}
@@ -11,7 +11,7 @@ use Rattle.model.specs.declared.Found.{Found}
 use Rattle.model.specs.Basic.{All}
 use Rattle.model.specs.Text.{isDigit, capTo}
 use Rattle.model.specs.Netpbm.{isSpace, RunOf, Numeral, IsNumeral, decimalFrom, valueOf, numeralsText}
-use Rattle.model.specs.PictureHeader.{Glyph, glyphsAt, found, mostValue, fieldNext, endNext}
+use Rattle.model.specs.PictureHeader.{Glyph, glyphsAt, found, mostValue, numberNext, endNext}
 use Rattle.model.proofs.Text.{and-true}
 use Rattle.model.proofs.Glyphs.{bytesOf}
 use Rattle.model.proofs.Fields.{digit-no-space, space-no-digit, RunEnds, any, any-some, some-any}
@@ -74,20 +74,20 @@ first-field n l h k gs g rest t e b =
 -- ---- several numbers, one after the other
 module _ (s : List ℕ) where
   -- what is found after n of them, and their values
-  abbrev pub fieldsNext : ℕ → Found → Found
-  fieldsNext zero f = f
-  fieldsNext (suc n) f = fieldsNext n (fieldNext s f)
+  abbrev pub numbersNext : ℕ → Found → Found
+  numbersNext zero f = f
+  numbersNext (suc n) f = numbersNext n (numberNext s f)
 
-  abbrev pub fieldValues : ℕ → Found → List ℕ
-  fieldValues zero f = []
-  fieldValues (suc n) f = fieldNext s f .value ∷ fieldValues n (fieldNext s f)
+  abbrev pub numberValues : ℕ → Found → List ℕ
+  numberValues zero f = []
+  numberValues (suc n) f = numberNext s f .value ∷ numberValues n (numberNext s f)
 
   -- from the layout to the reader
   pub numerals-read : (ns : List Numeral) → All IsNumeral ns → (f : Found) → f .some ≡ true
       → (gs : List Glyph) (g : Glyph) (rest : List Glyph) → glyphsAt s (f .at) ≡ gs ++ (g ∷ rest)
       → bytesOf gs ≡ numeralsText ns → isSpace (g .byte) ≡ true
-      → (endNext s (fieldsNext (length ns) f) ≡ found true 0 (g .next))
-      × (fieldValues (length ns) f ≡ map (capTo mostValue) (map valueOf ns))
+      → (endNext s (numbersNext (length ns) f) ≡ found true 0 (g .next))
+      × (numberValues (length ns) f ≡ map (capTo mostValue) (map valueOf ns))
   unfolding endNext
   numerals-read [] h f some [] g rest t e b = (rw (t, some, b), refl)
   numerals-read [] h f some (x ∷ gs) g rest t e b = absurd (let z : _≡_ {A = ℕ} 0 1 = cc in omega arith)
@@ -96,15 +96,15 @@ module _ (s : List ℕ) where
       let (same, there) = field-is s f (p .field) in
       let begun = any-some (p .gap) (rw (p .gap-is) (h .0 .0)) in
       let counted = any-some (p .decimal) (rw (p .decimal-is) (h .1 .0)) in
-      let found : fieldNext s f .some ≡ true = ap (λ (x : Found). x .some) same ∙ rw (some, begun, counted) in
+      let found : numberNext s f .some ≡ true = ap (λ (x : Found). x .some) same ∙ rw (some, begun, counted) in
       let on = ap (λ (x : Found). glyphsAt s (x .at)) same ∙ there in
-      let (end, values) = numerals-read l k (fieldNext s f) found (p .left) g rest on (p .left-is) b in
-      let value : fieldNext s f .value ≡ capTo mostValue (valueOf n) =
+      let (end, values) = numerals-read l k (numberNext s f) found (p .left) g rest on (p .left-is) b in
+      let value : numberNext s f .value ≡ capTo mostValue (valueOf n) =
       ap (λ (x : Found). x .value) same ∙ ap (λ x. capTo mostValue (decimalFrom 0 x)) (p .decimal-is) in
       (end, ap₂ (λ v l. v ∷ l) value values)
 
   -- from the reader to the layout: what n numbers and a last white space were read from
-  pub record Read (n : ℕ) (f : Found) : Type 0 where
+  pub record NumbersRead (n : ℕ) (f : Found) : Type 0 where
     pub some : f .some ≡ true
     pub numerals : List Numeral
     pub are-numerals : All IsNumeral numerals
@@ -114,11 +114,11 @@ module _ (s : List ℕ) where
     pub last-is-space : isSpace (last .byte) ≡ true
     pub rest : List Glyph
     pub text : glyphsAt s (f .at) ≡ shown ++ (last ∷ rest)
-    pub place : endNext s (fieldsNext n f) .at ≡ last .next
-    pub values : fieldValues n f ≡ map (capTo mostValue) (map valueOf numerals)
+    pub place : endNext s (numbersNext n f) .at ≡ last .next
+    pub values : numberValues n f ≡ map (capTo mostValue) (map valueOf numerals)
 
   -- the last white space alone
-  end-read : (f : Found) (l : List Glyph) → glyphsAt s (f .at) ≡ l → endNext s f .some ≡ true → Read 0 f
+  end-read : (f : Found) (l : List Glyph) → glyphsAt s (f .at) ≡ l → endNext s f .some ≡ true → NumbersRead 0 f
   unfolding endNext
   end-read f [] t e = absurd (true≢false (sym (rw t at e)))
   end-read f (g ∷ l) t e =
@@ -139,7 +139,7 @@ module _ (s : List ℕ) where
 
   -- one number before others
   field-read : (k : ℕ) (f : Found) (gap : Split isSpace (glyphsAt s (f .at))) (decimal : Split isDigit (gap .rest))
-      → Read k (fieldNext s f) → Read (suc k) f
+      → NumbersRead k (numberNext s f) → NumbersRead (suc k) f
   field-read k f gap decimal r =
       let field : Field (glyphsAt s (f .at)) (gap .run) (decimal .run) (decimal .rest) =
       record {
@@ -178,8 +178,8 @@ module _ (s : List ℕ) where
         values = ap₂ (λ v l. v ∷ l) (ap (λ (x : Found). x .value) same) (r .values);
       }
 
-  pub numbers-read : (n : ℕ) (f : Found) → endNext s (fieldsNext n f) .some ≡ true → Read n f
+  pub numbers-read : (n : ℕ) (f : Found) → endNext s (numbersNext n f) .some ≡ true → NumbersRead n f
   numbers-read zero f e = end-read f (glyphsAt s (f .at)) refl e
   numbers-read (suc n) f e =
       let gap = split isSpace (glyphsAt s (f .at)) in
-      field-read n f gap (split isDigit (gap .rest)) (numbers-read n (fieldNext s f) e)
+      field-read n f gap (split isDigit (gap .rest)) (numbers-read n (numberNext s f) e)

@@ -1,10 +1,10 @@
 -- A PBM is read exactly when it is one: the calls' promises by the laws of headers.
---   pbm-header, pbm-layout, pbm-raster   what the reader finds in a PBM, and that 14 is not drawn
---   pbm-last                             its raster is its last bytes
---   layout-pbm                           where 14 is not drawn, there is a PBM
---   pbm-one                              a file is one PBM only
---   pbm-apart, pbm-verdict               what reading comes to
---   pbm-reading                          so each answer is given exactly when it is due
+--   pbm-header, pbm-layout, pbm-raster  what the reader finds in a PBM, and that 14 is not drawn
+--   pbm-last                            its raster is its last bytes
+--   layout-pbm                          where 14 is not drawn, there is a PBM
+--   pbm-one                             a file is one PBM only
+--   pbm-exclusive, pbm-verdict          what reading comes to
+--   pbm-reading                         so each answer is given exactly when it is due
 use mathlib.Core.Bool.{Bool, true, false, true≢false}
 use mathlib.Core.List.{List, [], _∷_}
 use mathlib.Core.Logic.{_⊎_, inl, inr}
@@ -22,7 +22,7 @@ use Rattle.model.specs.PictureCalls.{wrongLayout, readPbmCall}
 use Rattle.model.specs.PicturePromises.{PbmReadingPromises}
 use Rattle.model.proofs.Text.{cap-low, cap-is}
 use Rattle.model.proofs.Header.{pbm-header-is-read, pbm-read-is-header}
-use Rattle.model.proofs.Verdicts.{Apart, Verdict, none, short, read, read-exactly, read-stored}
+use Rattle.model.proofs.Verdicts.{Exclusive, Verdict, none, short, read, read-exactly, read-stored}
 use Rattle.model.proofs.Verdicts.{14-exactly, 12-exactly, drawn-only}
 use Rattle.model.proofs.Pictures.{LayoutFits, layout-by, layout-none}
 
@@ -91,8 +91,8 @@ pbm-one p q = sym (pbm-size p) ∙ pbm-size q
 -- ---- what reading comes to
 module _ (file dots : List ℕ) where
   -- it is no PBM; it is one; what is stored of it; 15 is never due
-  abbrev None : Type 0
-  None = (z : Size) → IsPbm z file → ⊥
+  abbrev NoPbm : Type 0
+  NoPbm = (z : Size) → IsPbm z file → ⊥
 
   abbrev Is : Size → Type 0
   Is z = IsPbm z file
@@ -109,8 +109,8 @@ module _ (file dots : List ℕ) where
   abbrev little : Bool
   little = ltb (length dots) (cellsIn size)
 
-  pub pbm-apart : Apart None ⊥ Is stored
-  pbm-apart =
+  pub pbm-exclusive : Exclusive NoPbm ⊥ Is stored
+  pbm-exclusive =
       record {
         none-other = λ n o. o;
         none-is = λ n p. n _ p;
@@ -121,7 +121,7 @@ module _ (file dots : List ℕ) where
       }
 
   abbrev Reads : Type 0
-  Reads = Verdict None ⊥ Is stored (readPbmCall file dots .reply) (readPbmCall file dots .left) dots (length dots)
+  Reads = Verdict NoPbm ⊥ Is stored (readPbmCall file dots .reply) (readPbmCall file dots .left) dots (length dots)
 
   pub pbm-verdict : Reads
   unfolding readPbmCall
@@ -140,7 +140,7 @@ module _ (file dots : List ℕ) where
   pub pbm-reading : PbmReadingPromises file dots
   pbm-reading =
       let v = pbm-verdict in
-      let a = pbm-apart in
+      let a = pbm-exclusive in
       record {
         pbm-is-read-exactly = read-exactly _ _ _ _ _ _ _ _ a v;
         read-dots-are-bits = read-stored _ _ _ _ _ _ _ _ a v;

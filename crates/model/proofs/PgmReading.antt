@@ -1,9 +1,9 @@
 -- A PGM is read exactly when it is one: the calls' promises by the laws of headers.
---   pgm-header, pgm-layout, pgm-raster   what the reader finds in a PGM, and that 14 is not drawn
---   layout-pgm                           where 14 is not drawn, there is a PGM
---   pgm-one                              a file is one PGM only
---   pgm-apart, pgm-verdict               what reading comes to
---   pgm-reading                          so each answer is given exactly when it is due
+--   pgm-header, pgm-layout, pgm-raster  what the reader finds in a PGM, and that 14 is not drawn
+--   layout-pgm                          where 14 is not drawn, there is a PGM
+--   pgm-one                             a file is one PGM only
+--   pgm-exclusive, pgm-verdict          what reading comes to
+--   pgm-reading                         so each answer is given exactly when it is due
 use mathlib.Core.Bool.{Bool, true, false, true≢false}
 use mathlib.Core.List.{List}
 use mathlib.Core.Logic.{_⊎_, inl, inr}
@@ -21,7 +21,7 @@ use Rattle.model.specs.PictureCalls.{wrongLayout, readPgmCall}
 use Rattle.model.specs.PicturePromises.{PgmReadingPromises}
 use Rattle.model.proofs.Text.{cap-low, cap-is}
 use Rattle.model.proofs.Header.{pgm-header-is-read, pgm-read-is-header}
-use Rattle.model.proofs.Verdicts.{Apart, Verdict, none, other, short, read, read-exactly, read-stored}
+use Rattle.model.proofs.Verdicts.{Exclusive, Verdict, none, other, short, read, read-exactly, read-stored}
 use Rattle.model.proofs.Verdicts.{14-exactly, 15-exactly, 12-exactly, drawn-only}
 use Rattle.model.proofs.Pictures.{LayoutFits, layout-by, layout-none}
 
@@ -90,8 +90,8 @@ pgm-one p q = (sym (pgm-size p) ∙ pgm-size q, sym (pgm-maximum p) ∙ pgm-maxi
 -- ---- what reading comes to
 module _ (file gray : List ℕ) where
   -- it is no PGM; it has another maximum; it is one; what is stored of it
-  abbrev None : Type 0
-  None = (z : Size) (m : ℕ) → IsPgm z m file → ⊥
+  abbrev NoPgm : Type 0
+  NoPgm = (z : Size) (m : ℕ) → IsPgm z m file → ⊥
 
   abbrev Other : Type 0
   Other = (z : Size) × (m : ℕ) × IsPgm z m file × (m ≡ 255 → ⊥)
@@ -114,8 +114,8 @@ module _ (file gray : List ℕ) where
   abbrev little : Bool
   little = ltb (length gray) (cellsIn size)
 
-  pub pgm-apart : Apart None Other Is stored
-  pgm-apart =
+  pub pgm-exclusive : Exclusive NoPgm Other Is stored
+  pgm-exclusive =
       record {
         none-other = λ n (z, m, p, _). n z m p;
         none-is = λ n p. n _ _ p;
@@ -126,7 +126,7 @@ module _ (file gray : List ℕ) where
 
   abbrev Reads : Type 0
   Reads =
-      Verdict None Other Is stored (readPgmCall file gray .reply) (readPgmCall file gray .left) gray (length gray)
+      Verdict NoPgm Other Is stored (readPgmCall file gray .reply) (readPgmCall file gray .left) gray (length gray)
 
   pub pgm-verdict : Reads
   unfolding readPgmCall
@@ -149,7 +149,7 @@ module _ (file gray : List ℕ) where
   pub pgm-reading : PgmReadingPromises file gray
   pgm-reading =
       let v = pgm-verdict in
-      let a = pgm-apart in
+      let a = pgm-exclusive in
       record {
         pgm-is-read-exactly = read-exactly _ _ _ _ _ _ _ _ a v;
         read-gray-is-negated = read-stored _ _ _ _ _ _ _ _ a v;

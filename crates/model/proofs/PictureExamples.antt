@@ -3,14 +3,14 @@ use mathlib.Core.Path.{refl}
 use Rattle.model.specs.Basic.{tabulate}
 use Rattle.model.specs.Psf.{total}
 use Rattle.model.specs.Text.{digits}
-use Rattle.model.specs.Netpbm.{packedByte, packed, bitAt, unpacked, negated, rowCounts, pbmFile}
-use Rattle.model.specs.PictureHeader.{glyphs, spacesFrom, numberFrom, fieldNext, endNext, pbmHeader, pgmHeader}
+use Rattle.model.specs.Netpbm.{packedByte, packed, bitAt, unpacked, negated, rowCounts, pbmFile, pgmFile}
+use Rattle.model.specs.PictureHeader.{glyphs, spacesFrom, numberFrom, numberNext, endNext, pbmHeader, pgmHeader}
 use Rattle.model.specs.PictureCalls.{readPbmCall, readPgmCall}
 use Rattle.model.specs.PictureExamples.{PictureExamples}
 
 pub picture-examples : PictureExamples
-unfolding tabulate total digits packedByte packed bitAt unpacked negated rowCounts pbmFile glyphs spacesFrom numberFrom
-    fieldNext endNext pbmHeader pgmHeader readPbmCall readPgmCall
+unfolding tabulate total digits packedByte packed bitAt unpacked negated rowCounts pbmFile pgmFile glyphs spacesFrom
+    numberFrom numberNext endNext pbmHeader pgmHeader readPbmCall readPgmCall
 picture-examples =
     record {
       pbm-is-read = refl;
@@ -25,5 +25,6 @@ picture-examples =
       maximum-65536 = refl;
       maximum-0 = refl;
       pbm-is-written = refl;
+      pgm-is-written = refl;
       rows-are-counted = refl;
     }

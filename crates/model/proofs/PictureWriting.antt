@@ -1,6 +1,6 @@
 -- What is written reads back, and the dots per row.
---   pbm-written, pgm-written   what a file is that was written, and that it reads back
---   counting                   the dots per row, and their sum
+--   pbm-written, pgm-written  what a file is that was written, and that it reads back
+--   counting                  the dots per row, and their sum
 use mathlib.Core.List.{List}
 use mathlib.Core.Path.{_≡_, refl, sym, _∙_, ap}
 use Prim.Native.Nat.{ℕ}

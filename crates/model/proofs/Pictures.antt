@@ -1,7 +1,7 @@
 -- Laws of the calls for PBM and PGM files: what one that is not refused was handed.
 --   layout-by, layout-none, layout-drawn  14 is drawn exactly where header and length do not fit
 --   pbm-fits, pgm-fits                    what a file was that is read
---   size-fits, cells-fit, bits-fit        1, and 5, and 7
+--   size-fits, picture-fits, bits-fit     1, and 5, and 7
 --   rows-fit                              what was handed to be counted
 --   pbm-writes, pgm-writes                what was handed to be written
 --   pbm-length, pgm-length                how long a file is that is written
@@ -18,9 +18,10 @@ use Rattle.model.specs.Basic.{AtMost}
 use Rattle.model.specs.Refusal.{firstOf, outside, differs, badSize, badDot}
 use Rattle.model.specs.Netpbm.{InSize, cellsIn, packedSize, packed, negated, pbmHead, pgmHead, pbmFile, pgmFile}
 use Rattle.model.specs.PictureHeader.{sizeOf}
-use Rattle.model.specs.PictureCalls.{isMaximum, wrongLayout, badLayout, badCells, pbmRefusals, pgmRefusals}
+use Rattle.model.specs.PictureCalls.{isMaximum, wrongLayout, badLayout, pictureRefusals, pbmRefusals, pgmRefusals}
 use Rattle.model.specs.PictureCalls.{writePbmRefusals, writePgmRefusals, countRowsRefusals}
-use Rattle.model.proofs.Refusal.{none, drawn-none, neither, _nor_, within, same, alike-not, size-inside, none-above}
+use Rattle.model.proofs.Refusal.{none, drawn-none, neither, _nor_, within, same, alike-not, size-inside}
+use Rattle.model.proofs.Refusal.{none-above}
 use Rattle.model.proofs.Raster.{packed-length, negated-length}
 use Rattle.model.proofs.Text.{and-true}
 
@@ -87,16 +88,16 @@ size-fits z e f =
     let (wide, high) = size-inside (z .width) (z .height) size in
     record { wide = wide; high = high }
 
-pub cells-fit : (z : Size) (cells : ℕ) {x : ℕ} → x ≡ firstOf (badCells z cells) → x ≡ 0
+pub picture-fits : (z : Size) (cells : ℕ) {x : ℕ} → x ≡ firstOf (pictureRefusals z cells) → x ≡ 0
     → InSize z × (cells ≡ cellsIn z)
-cells-fit z cells e f =
-    let (size, (exact, _)) = none (badCells z cells) tt e f in
+picture-fits z cells e f =
+    let (size, (exact, _)) = none (pictureRefusals z cells) tt e f in
     (size-fits z refl (rw size refl), same cells (cellsIn z) (neither _ _ exact .0))
 
-pub bits-fit : (z : Size) (dots : List ℕ) {x : ℕ} → x ≡ firstOf (badCells z (length dots) ++ (badDot dots ∷ []))
+pub bits-fit : (z : Size) (dots : List ℕ) {x : ℕ} → x ≡ firstOf (pictureRefusals z (length dots) ++ (badDot dots ∷ []))
     → x ≡ 0 → InSize z × (length dots ≡ cellsIn z) × AtMost 1 dots
 bits-fit z dots e f =
-    let (size, (exact, (bits, _))) = none (badCells z (length dots) ++ (badDot dots ∷ [])) tt e f in (
+    let (size, (exact, (bits, _))) = none (pictureRefusals z (length dots) ++ (badDot dots ∷ [])) tt e f in (
       size-fits z refl (rw size refl),
       same (length dots) (cellsIn z) (neither _ _ exact .0),
       record { each = none-above 1 dots bits },
@@ -117,7 +118,7 @@ pub pbm-writes : (z : Size) (dots : List ℕ) (room : ℕ) → firstOf (writePbm
     → InSize z × (length dots ≡ cellsIn z) × AtMost 1 dots × (length (pbmFile z dots) ≤ room)
 pbm-writes z dots room e =
     let (size, (exact, (bits, (short, _)))) = none (writePbmRefusals z dots room) tt refl e in
-    let (in-size, long, all) = bits-fit z dots refl (drawn-none (badCells z (length dots) ++ (badDot dots ∷ []))
+    let (in-size, long, all) = bits-fit z dots refl (drawn-none (pictureRefusals z (length dots) ++ (badDot dots ∷ []))
     (size, (exact, (bits, tt)))) in
     (in-size, long, all, ltb-false room (length (pbmFile z dots)) short)
 
@@ -125,7 +126,8 @@ pub pgm-writes : (z : Size) (gray : List ℕ) (room : ℕ) → firstOf (writePgm
     → InSize z × (length gray ≡ cellsIn z) × (length (pgmFile z gray) ≤ room)
 pgm-writes z gray room e =
     let (size, (exact, (short, _))) = none (writePgmRefusals z gray room) tt refl e in
-    let (in-size, long) = cells-fit z (length gray) refl (drawn-none (badCells z (length gray)) (size, (exact, tt))) in
+    let passed = drawn-none (pictureRefusals z (length gray)) (size, (exact, tt)) in
+    let (in-size, long) = picture-fits z (length gray) refl passed in
     (in-size, long, ltb-false room (length (pgmFile z gray)) short)
 
 -- how long a file is

@@ -1,10 +1,10 @@
 -- Laws of the raster.
---   bit-shift, higher-bit, lowest-bit         the bits of a number by those of its half
---   word-next, word<, word-bit                a word of bits
---   packed-bits, spare-bits                   the bit of a cell is its dot, and a spare bit is 0
---   unpacked-packed, negated-twice            what is packed is unpacked, what is negated is negated back
---   row-counts-dots, row-totals-sum           the counts of a raster are the dots per row, and these sum to the dots
---   packed-length, unpacked-length, negated-length
+--   bit-shift, higher-bit, lowest-bit  the bits of a number by those of its half
+--   word-next, word<, word-bit         a word of bits
+--   packed-bits, spare-bits            the bit of a cell is its dot, and a spare bit is 0
+--   unpacked-packed, negated-twice     what is packed is unpacked, what is negated is negated back
+--   row-counts-dots, row-totals-sum    the counts of a raster are the dots per row, and these sum to the dots
+--   packed-length, negated-length      how long they are
 use mathlib.Core.Path.{_≡_, refl, sym, _∙_, ap, ap₂}
 use mathlib.Core.List.{List, [], _∷_, _++_}
 use Prim.Native.Nat.{ℕ, zero, suc, _+_, _*_, _-_, _/_, _%_, _^_, _≤_, _<_}
@@ -25,7 +25,7 @@ use Rattle.model.specs.Netpbm.{cellsIn, rowBytes, packedSize, wordFrom, 
 use Rattle.model.specs.Netpbm.{unpacked, negated, rowCounts, rowTotals}
 use Rattle.model.proofs.Basic.{pick-cases, at-most-tail, length-tabulate, getD-tabulate}
 use Rattle.model.proofs.Basic.{tabulate-by, tabulate-cong}
-use Rattle.model.proofs.Tables.{total-append, total-next}
+use Rattle.model.proofs.Tables.{total-append, total-tabulate}
 
 -- ---- bits
 -- the bits of a number that is shifted right
@@ -117,10 +117,6 @@ module _ (z : Size) (dots : List ℕ) where
     spare-bits h k = bit-of k ∙ rw (le-ltb col (z .width) h)
 
 -- ---- unpacked
-pub unpacked-length : (z : Size) (raster : List ℕ) → length (unpacked z raster) ≡ cellsIn z
-unfolding unpacked
-unpacked-length z raster = length-tabulate (cellsIn z) _
-
 pub unpacked-packed : (z : Size) (dots : List ℕ) → 1 ≤ z .width → length dots ≡ cellsIn z → AtMost 1 dots
     → unpacked z (packed z dots) ≡ dots
 unfolding unpacked
@@ -169,7 +165,7 @@ module _ (z : Size) (dots : List ℕ) (e : length dots ≡ cellsIn z) where
       rows : (n : ℕ) → total (tabulate n (λ y. total (take w (drop (y * w) dots)))) ≡ total (take (n * w) dots)
       rows zero = let none : 0 ≡ 0 * w = omega arith in ap (λ k. total (take k dots)) none
       rows (suc n) =
-          total-next n (λ y. total (take w (drop (y * w) dots)))
+          total-tabulate n (λ y. total (take w (drop (y * w) dots)))
           ∙ ap (λ k. k + total (take w (drop (n * w) dots))) (rows n)
           ∙ sym (ap total (ap (λ k. take k dots) (suc-mul n w) ∙ take-add (n * w) w dots)
           ∙ total-append (take (n * w) dots) (take w (drop (n * w) dots)))

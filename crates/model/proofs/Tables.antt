@@ -2,7 +2,7 @@
 --   tabulate-part, tabulate-row            a list in two parts, and a row after the rows before it
 --   sets-append                            a list put in two parts
 --   put-none, put-next, put-part, put-row  a tabulated list that a loop puts from a place on
---   total-append, total-next               the total of two parts, and of one entry more
+--   total-append, total-tabulate           the total of two parts, and of one entry more
 use mathlib.Core.Path.{_≡_, refl, sym, _∙_, ap, ap₂, subst}
 use mathlib.Core.List.{List, [], _∷_, _++_, append-assoc, append-nil}
 use Prim.Native.Nat.{ℕ, zero, suc, _+_, _*_, _/_, _%_, _<_}
@@ -94,6 +94,6 @@ unfolding total
 total-append [] l = omega arith
 total-append (x ∷ k) l = omega (arith, total-append k l)
 
-pub total-next : (n : ℕ) (f : ℕ → ℕ) → total (tabulate (suc n) f) ≡ total (tabulate n f) + f n
+pub total-tabulate : (n : ℕ) (f : ℕ → ℕ) → total (tabulate (suc n) f) ≡ total (tabulate n f) + f n
 unfolding tabulate total
-total-next n f = total-append (tabulate n f) (f n ∷ []) ∙ omega arith
+total-tabulate n f = total-append (tabulate n f) (f n ∷ []) ∙ omega arith

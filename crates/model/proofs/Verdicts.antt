@@ -1,6 +1,6 @@
--- What reading a picture comes to, whatever its kind: verdicts that exclude one another, so each answer is given exactly
--- when its own holds.
---   Verdict, Apart                                  the four verdicts; that they exclude one another
+-- What reading a picture comes to, whatever its kind: verdicts that exclude one another, so each answer is given
+-- exactly when its own holds.
+--   Verdict, Exclusive                              the four verdicts; that they exclude one another
 --   read-exactly, read-stored                       it is read, and what is stored then
 --   14-exactly, 15-exactly, 12-exactly, drawn-only  it is refused, each number exactly when it is due, and no other
 use mathlib.Core.List.{List}
@@ -11,26 +11,26 @@ use native.Mathlib.Omega.{arith}
 use Rattle.model.specs.declared.Size.{Size}
 use Rattle.model.specs.Calls.{Reply, result, refused}
 use Rattle.model.specs.Netpbm.{cellsIn}
-use Rattle.model.specs.PicturePromises.{Exactly}
+use Rattle.model.specs.Basic.{Exactly}
 use Rattle.model.proofs.Calls.{no-result, same-result, same-refusal}
 
 -- a file that is none, one with another maximum, and one of a size that may be read, with what it stores
-module _ (None Other : Type 0) (Is : Size → Type 0) (stored : (z : Size) → Is z → List ℕ) where
-  pub record Apart : Type 0 where
-    pub none-other : None → Other → ⊥
-    pub none-is : {z : Size} → None → Is z → ⊥
+module _ (No Other : Type 0) (Is : Size → Type 0) (stored : (z : Size) → Is z → List ℕ) where
+  pub record Exclusive : Type 0 where
+    pub none-other : No → Other → ⊥
+    pub none-is : {z : Size} → No → Is z → ⊥
     pub other-is : {z : Size} → Other → Is z → ⊥
     pub one-size : {y z : Size} → Is y → Is z → y ≡ z
     pub same-stored : {y z : Size} (p : Is y) (q : Is z) → stored y p ≡ stored z q
 
   module _ (reply : Reply Size) (left buffer : List ℕ) (room : ℕ) where
     pub data Verdict : Type 0 where
-      none : None → reply ≡ refused 14 0 → left ≡ buffer → Verdict
+      none : No → reply ≡ refused 14 0 → left ≡ buffer → Verdict
       other : Other → reply ≡ refused 15 0 → left ≡ buffer → Verdict
       short : (z : Size) → Is z → room < cellsIn z → reply ≡ refused 12 0 → left ≡ buffer → Verdict
       read : (z : Size) (p : Is z) → cellsIn z ≤ room → reply ≡ result z → left ≡ stored z p → Verdict
 
-    module _ (a : Apart) where
+    module _ (a : Exclusive) where
       -- there is not both too little room and enough
       small : {y z : Size} → Is y → Is z → room < cellsIn y → cellsIn z ≤ room → ⊥
       small p q few enough = omega (arith, ap cellsIn (a .one-size p q))
@@ -57,16 +57,16 @@ module _ (None Other : Type 0) (Is : Size → Type 0) (stored : (z : Size) → I
       read-stored (short y p few r l) z q enough = absurd (small p q few enough)
       read-stored (read y p _ r l) z q enough = l ∙ a .same-stored p q
 
-      pub 14-exactly : Verdict → Exactly (reply ≡ refused 14 0) None
+      pub 14-exactly : Verdict → Exactly (reply ≡ refused 14 0) No
       14-exactly v = (to v, from v)
         where
-          to : Verdict → reply ≡ refused 14 0 → None
+          to : Verdict → reply ≡ refused 14 0 → No
           to (none n r l) e = n
           to (other o r l) e = absurd (omega (arith, same-refusal (sym r ∙ e) .0))
           to (short y p few r l) e = absurd (omega (arith, same-refusal (sym r ∙ e) .0))
           to (read y p enough r l) e = absurd (no-result (sym e ∙ r))
 
-          from : Verdict → None → reply ≡ refused 14 0
+          from : Verdict → No → reply ≡ refused 14 0
           from (none n r l) m = r
           from (other o r l) m = absurd (a .none-other m o)
           from (short y p few r l) m = absurd (a .none-is m p)

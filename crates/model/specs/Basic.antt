@@ -26,6 +26,10 @@ unfoldable pub tabulate {ℓ} : {A : Type ℓ} → ℕ → (ℕ → A) → List 
 tabulate zero f = []
 tabulate (suc n) f = tabulate n f ++ (f n ∷ [])
 
+-- the one exactly when the other
+abbrev pub Exactly : Type 0 → Type 0 → Type 0
+Exactly A B = (A → B) × (B → A)
+
 -- it holds of every entry of a list
 abbrev pub All : {A : Type 0} → (A → Type 0) → List A → Type 0
 All P [] = Unit {0}

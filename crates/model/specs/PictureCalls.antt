@@ -66,16 +66,16 @@ pgmRefusals h file room =
     badLayout h (cellsIn (sizeOf h)) file ∷ badMaximum h ∷ badRoom (cellsIn (sizeOf h)) room ∷ []
 
 -- 1 and 5, of a picture with so many cells
-abbrev pub badCells : Size → ℕ → List Refusal
-badCells z cells = badSize (z .width) (z .height) ∷ badCellsLength z cells ∷ []
+abbrev pub pictureRefusals : Size → ℕ → List Refusal
+pictureRefusals z cells = badSize (z .width) (z .height) ∷ badCellsLength z cells ∷ []
 
 abbrev pub writePbmRefusals : Size → (dots : List ℕ) (room : ℕ) → List Refusal
 writePbmRefusals z dots room =
-    badCells z (length dots) ++ (badDot dots ∷ badRoom (length (pbmFile z dots)) room ∷ [])
+    pictureRefusals z (length dots) ++ (badDot dots ∷ badRoom (length (pbmFile z dots)) room ∷ [])
 
 -- no dots are handed, so no 7
 abbrev pub writePgmRefusals : Size → (gray : List ℕ) (room : ℕ) → List Refusal
-writePgmRefusals z gray room = badCells z (length gray) ++ (badRoom (length (pgmFile z gray)) room ∷ [])
+writePgmRefusals z gray room = pictureRefusals z (length gray) ++ (badRoom (length (pgmFile z gray)) room ∷ [])
 
 abbrev pub countRowsRefusals : Size → (raster counts : ℕ) → List Refusal
 countRowsRefusals z raster counts = badSize (z .width) (z .height) ∷ badRowsLength z raster counts ∷ []

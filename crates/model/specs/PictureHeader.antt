@@ -1,4 +1,4 @@
--- Reading the header of a PBM or PGM file, as an executable definition: byte by byte from a place on, comments left out.
+-- Reading the header of a PBM or PGM file, as an executable definition: byte by byte from a place on, without comments.
 -- That it reads just the headers of Netpbm.antt is promised (PicturePromises.antt).
 use mathlib.Core.Bool.{Bool, true, false, _&&_, _||_, not}
 use mathlib.Core.List.{List, [], _∷_}
@@ -58,8 +58,8 @@ module _ (s : List ℕ) where
   magic kind = found (leb 2 (length s) && (eqb (getD s 0 0) 80 && eqb (getD s 1 0) kind)) 0 2
 
   -- a number with white space before it, after what was found
-  unfoldable pub fieldNext : Found → Found
-  fieldNext f =
+  unfoldable pub numberNext : Found → Found
+  numberNext f =
       let gap = spacesFrom false (f .at) (glyphsAt s (f .at)) in
       let n = numberFrom false 0 (gap .at) (glyphsAt s (gap .at)) in
       found (f .some && (gap .some && n .some)) (n .value) (n .at)
@@ -75,16 +75,16 @@ module _ (s : List ℕ) where
   -- the whole header
   unfoldable pub pbmHeader : PictureHeader
   pbmHeader =
-      let w = fieldNext (magic 52) in
-      let h = fieldNext w in
+      let w = numberNext (magic 52) in
+      let h = numberNext w in
       let e = endNext h in
       record { good = e .some; width = w .value; height = h .value; maximum = 1; at = e .at }
 
   unfoldable pub pgmHeader : PictureHeader
   pgmHeader =
-      let w = fieldNext (magic 53) in
-      let h = fieldNext w in
-      let m = fieldNext h in
+      let w = numberNext (magic 53) in
+      let h = numberNext w in
+      let m = numberNext h in
       let e = endNext m in
       record { good = e .some; width = w .value; height = h .value; maximum = m .value; at = e .at }
 

@@ -9,7 +9,7 @@ use lib.ListN.{length, getD, take, drop}
 use lib.Seq.{sets}
 use Rattle.model.specs.declared.Size.{Size}
 use Rattle.model.specs.declared.Stats.{Stats}
-use Rattle.model.specs.Basic.{AtMost}
+use Rattle.model.specs.Basic.{Exactly, AtMost}
 use Rattle.model.specs.Psf.{total}
 use Rattle.model.specs.Error.{Target}
 use Rattle.model.specs.Refusal.{firstOf}
@@ -20,10 +20,6 @@ use Rattle.model.specs.Netpbm.{IsPbm, IsPgm, cellsIn, rowBytes, packedSi
 use Rattle.model.specs.Netpbm.{rowCounts, rowTotals, pbmFile, pgmFile}
 use Rattle.model.specs.PictureExamples.{PictureExamples}
 use Rattle.model.specs.PictureCalls.{readPbmCall, readPgmCall, writePbmCall, writePgmCall}
-
--- the one exactly when the other
-abbrev pub Exactly : Type 0 → Type 0 → Type 0
-Exactly A B = (A → B) × (B → A)
 
 -- ---- reading: of any bytes, into any buffer
 module _ (file dots : List ℕ) where

@@ -1,6 +1,6 @@
 -- The promises of document 01: a record for each of its parts, a field for each sentence; those of the requests of
--- document 02 stand in files of their own and are among them. That they hold is `promises` of proofs/Main.antt. That the public calls answer and leave just what is said here stands in their contracts, which
--- cite the same definitions.
+-- document 02 stand in files of their own and are among them. That they hold is `promises` of proofs/Main.antt. That
+-- the public calls answer and leave just what is said here stands in their contracts, which cite the same definitions.
 use mathlib.Core.Path.{_≡_}
 use mathlib.Core.Bool.{true}
 use mathlib.Core.Logic.{_⊎_}

@@ -1,6 +1,6 @@
 -- The outcomes of the calls, one law for each.
---   pbm-refused, pbm-read      a PBM is refused, or read
---   pgm-refused, pgm-read      a PGM likewise
+--   pbm-refused, pbm-read                   a PBM is refused, or read
+--   pgm-refused, pgm-read                   a PGM likewise
 --   write-refused, write-short, write-done  a picture is refused because of what was handed; 12; it is written
 use mathlib.Core.List.{List, [], _∷_, _++_}
 use mathlib.Core.Path.{_≡_, sym, _∙_, ap}

@@ -12,9 +12,9 @@ use picture_count::count_packed;
 use picture_header::pbm_header;
 use picture_header::pgm_header;
 use picture_judge::judge_bits;
-use picture_judge::judge_cells;
 use picture_judge::judge_pbm;
 use picture_judge::judge_pgm;
+use picture_judge::judge_picture;
 use picture_judge::judge_rows;
 use picture_lines::pbm_length;
 use picture_lines::pgm_length;
@@ -83,7 +83,7 @@ pub fn write_pgm(size: Size, gray: &[u8], out: &mut [u8]) -> Written
     ensures { λ r. ⌜ writtenOf r ≡ writePgmCall size (now (gray .entry)) (now (out .entry)) .reply ⌝ }
     ensures { λ _. ⌜ now (out .exit) ≡ writePgmCall size (now (gray .entry)) (now (out .entry)) .left ⌝ }
 {
-    let number = judge_cells(size, gray.len());
+    let number = judge_picture(size, gray.len());
     if number != 0 {
         return Written::Refused(number);
     }

@@ -14,7 +14,7 @@ use Rattle.model.specs.Psf.{total}
 use Rattle.model.specs.Netpbm.{rowBytes, bitAt}
 use Rattle.model.proofs.Basic.{tabulate-cong}
 use Rattle.model.proofs.Raster.{bit-shift, higher-bit, lowest-bit}
-use Rattle.model.proofs.Tables.{tabulate-part, total-append, total-next}
+use Rattle.model.proofs.Tables.{tabulate-part, total-append, total-tabulate}
 use Rattle.picture_raster.proofs.Bytes.{cell-of}
 
 -- ---- the set bits of a number of k bits
@@ -24,7 +24,7 @@ ones-bits zero n h = let none : n ≡ 0 = omega arith in ap ones none
 ones-bits (suc k) n h =
     let half : n / 2 < 2 ^ k = omega (arith, pow-succ' 2 k) in
     let same = ap total (tabulate-cong k (λ i l. higher-bit k i n l)) in
-    let next = total-next k (λ i. bit (suc k - suc i) n) in
+    let next = total-tabulate k (λ i. bit (suc k - suc i) n) in
     omega (arith, ones-step n, ones-bits k (n / 2) half, lowest-bit k n)
 
 -- of a byte whose spare bits are shifted out

@@ -16,7 +16,7 @@ use Rattle.model.specs.declared.Found.{Found}
 use Rattle.model.specs.Text.{isDigit, growTo}
 use Rattle.model.specs.Netpbm.{isSpace, opensComment}
 use Rattle.model.specs.PictureHeader.{commenting, glyphs, glyphsAt, found, spacesFrom, numberFrom}
-use Rattle.model.specs.PictureHeader.{fieldNext, endNext}
+use Rattle.model.specs.PictureHeader.{numberNext, endNext}
 use Rattle.picture_header.specs.Bare.{Bare}
 
 -- ---- by the byte at a place
@@ -80,8 +80,8 @@ module _ {s : List ℕ} {at next : ℕ} (b : Bare s at next) where
 -- ---- a number with white space before it
 pub field-by : (s : List ℕ) (f : Found) {gap n : Found} → gap ≡ spacesFrom false (f .at) (glyphsAt s (f .at))
     → n ≡ numberFrom false 0 (gap .at) (glyphsAt s (gap .at))
-    → fieldNext s f ≡ found (f .some && (gap .some && n .some)) (n .value) (n .at)
-unfolding fieldNext
+    → numberNext s f ≡ found (f .some && (gap .some && n .some)) (n .value) (n .at)
+unfolding numberNext
 field-by s f e e′ = rw (← e, ← e′)
 
 -- ---- the last white space

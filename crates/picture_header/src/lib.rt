@@ -3,7 +3,7 @@ ghost use mathlib.Core.Bool.{false};
 ghost use mathlib.Core.Path.{_≡_};
 ghost use Prim.Native.Nat.{_≤_};
 ghost use Rattle.model.specs.Netpbm.{isSpace, endsComment};
-ghost use Rattle.model.specs.PictureHeader.{commenting, glyphsAt, spacesFrom, numberFrom, magic, fieldNext, endNext};
+ghost use Rattle.model.specs.PictureHeader.{commenting, glyphsAt, spacesFrom, numberFrom, magic, numberNext, endNext};
 ghost use Rattle.model.specs.PictureHeader.{pbmHeader, pgmHeader};
 ghost use Rattle.picture_header.specs.Bare.{Bare};
 use model::Found;
@@ -105,7 +105,7 @@ fn read_number(s: &[u8], at: usize) -> Found
 
 // a number with white space before it, after what was found
 fn next_number(s: &[u8], f: Found) -> Found
-    ensures { λ r. ⌜ r ≡ fieldNext (now (s .entry)) f ⌝ }
+    ensures { λ r. ⌜ r ≡ numberNext (now (s .entry)) f ⌝ }
     ensures { λ r. ⌜ r .value ≤ 65536 ⌝ }
 {
     let gap = skip_spaces(s, f.at);

@@ -1,11 +1,11 @@
-// Judging what the calls for PBM and PGM files are handed: each function answers the number of the first refusal that is
-// drawn, 0 for none.
+// Judging what the calls for PBM and PGM files are handed: each function answers the number of the first refusal that
+// is drawn, 0 for none.
 ghost use mathlib.Core.List.{[], _∷_, _++_};
 ghost use mathlib.Core.Path.{_≡_};
 ghost use Prim.Native.Nat.{_≤_};
 ghost use lib.ListN.{length};
 ghost use Rattle.model.specs.Refusal.{firstOf, outside, badSize, badDot};
-ghost use Rattle.model.specs.PictureCalls.{badLayout, badRoom, badCells, pbmRefusals, pgmRefusals};
+ghost use Rattle.model.specs.PictureCalls.{badLayout, badRoom, pictureRefusals, pbmRefusals, pgmRefusals};
 ghost use Rattle.model.specs.PictureCalls.{countRowsRefusals};
 use judge_parts::judge_dots;
 use model::PictureHeader;
@@ -99,8 +99,8 @@ pub fn judge_pgm(h: PictureHeader, file: usize, room: usize) -> u32
 }
 
 // 1 and 5, of a picture of so many cells.
-pub fn judge_cells(size: Size, cells: usize) -> u32
-    ensures { λ r. ⌜ r ≡ firstOf (badCells size cells) ⌝ }
+pub fn judge_picture(size: Size, cells: usize) -> u32
+    ensures { λ r. ⌜ r ≡ firstOf (pictureRefusals size cells) ⌝ }
 {
     let number = judge_size(size);
     if number != 0 {
@@ -114,9 +114,10 @@ pub fn judge_cells(size: Size, cells: usize) -> u32
 
 // 1, 5 and 7.
 pub fn judge_bits(size: Size, dots: &[u8]) -> u32
-    ensures { λ r. ⌜ r ≡ firstOf (badCells size (length (now (dots .entry))) ++ (badDot (now (dots .entry)) ∷ [])) ⌝ }
+    ensures { λ r. ⌜ r ≡ firstOf
+        (pictureRefusals size (length (now (dots .entry))) ++ (badDot (now (dots .entry)) ∷ [])) ⌝ }
 {
-    let number = judge_cells(size, dots.len());
+    let number = judge_picture(size, dots.len());
     if number != 0 {
         return number;
     }

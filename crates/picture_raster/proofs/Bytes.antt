@@ -1,9 +1,9 @@
 -- The bytes of a row, each with so many of the row's cells left.
---   cell-bit, word-small, byte-packed   the byte as its cells are packed, one after the other
---   byte-at                             a byte of the raster that stands in a file
---   cell-of, cells-next                 the cells of a byte, and those passed after a byte more
---   row-room                            the bytes of a row lie within those of all rows
---   negated-tabulate                    bytes negated from a place on
+--   cell-bit, word-small, byte-packed  the byte as its cells are packed, one after the other
+--   byte-at                            a byte of the raster that stands in a file
+--   cell-of, cells-next                the cells of a byte, and those passed after a byte more
+--   row-room                           the bytes of a row lie within those of all rows
+--   negated-tabulate                   bytes negated from a place on
 use mathlib.Core.List.{List}
 use mathlib.Core.Path.{_≡_, sym, _∙_, ap, ap₂}
 use Prim.Native.Nat.{ℕ, _+_, _*_, _-_, _/_, _%_, _≤_, _<_, min}

@@ -6,7 +6,7 @@ use borrow.Author.Needs.{needs}
 use lib.ListN.{length}
 use Rattle.model.specs.Refusal.{badDot}
 use Rattle.model.specs.Netpbm.{pbmHead, packed, pbmFile}
-use Rattle.model.specs.PictureCalls.{badCells, writePbmCall}
+use Rattle.model.specs.PictureCalls.{pictureRefusals, writePbmCall}
 use Rattle.model.proofs.Pictures.{bits-fit, pbm-length}
 use Rattle.sheet_write.proofs.Puts.{part-next}
 use Rattle.picture.proofs.Outcomes.{write-refused, write-short, write-done}
@@ -22,8 +22,8 @@ returns c =
     let s : tie.Start = search in
     let judged : tie.After-judge-bits = search in
     let dots = s .args .dots .now in
-    write-refused (badCells (s .args .size) (length dots) ++ (badDot dots ∷ [])) tt (pbmFile (s .args .size) dots)
-    (s .args .out .now) (judged .judge-bits .ensures) (c .if1 .taken)
+    write-refused (pictureRefusals (s .args .size) (length dots) ++ (badDot dots ∷ [])) tt
+    (pbmFile (s .args .size) dots) (s .args .out .now) (judged .judge-bits .ensures) (c .if1 .taken)
 
 pbm-length-requires : tie.Need-pbm-length-requires
 pbm-length-requires c κs =
@@ -41,7 +41,7 @@ returns-2 c =
     let long : tie.After-pbm-length = search in
     let dots = s .args .dots .now in
     let size = pbm-length (s .args .size) dots in
-    write-short (badCells (s .args .size) (length dots) ++ (badDot dots ∷ [])) tt (pbmFile (s .args .size) dots)
+    write-short (pictureRefusals (s .args .size) (length dots) ++ (badDot dots ∷ [])) tt (pbmFile (s .args .size) dots)
     (s .args .out .now) (judged .judge-bits .ensures) (left .if1 .left)
     (omega (arith, long .pbm-length .ensures, size, c .if2 .taken))
 
@@ -77,7 +77,7 @@ returns-3 c =
     let dots = s .args .dots .now in
     let put = head .put-pbm-head in
     let size = pbm-length z dots in
-    write-done (badCells z (length dots) ++ (badDot dots ∷ [])) tt (pbmFile z dots)
+    write-done (pictureRefusals z (length dots) ++ (badDot dots ∷ [])) tt (pbmFile z dots)
     (s .args .out .now) (judged .judge-bits .ensures) (left .if1 .left)
     (omega (arith, long .pbm-length .ensures, size, room .if2 .left)) (long .pbm-length .ensures ∙ sym size)
     (done .pack-rows .ensures

@@ -4,44 +4,44 @@ use native.Mathlib.Omega.{arith}
 use borrow.Author.Needs.{needs}
 use lib.ListN.{length}
 use Rattle.model.specs.Netpbm.{pgmHead, negated, pgmFile}
-use Rattle.model.specs.PictureCalls.{badCells, writePgmCall}
-use Rattle.model.proofs.Pictures.{cells-fit, pgm-length}
+use Rattle.model.specs.PictureCalls.{pictureRefusals, writePgmCall}
+use Rattle.model.proofs.Pictures.{picture-fits, pgm-length}
 use Rattle.sheet_write.proofs.Puts.{part-next}
 use Rattle.picture.proofs.Outcomes.{write-refused, write-short, write-done}
 use Rattle.picture.proofs.write_pgm.Statement.{statement}
 use Rattle.picture.proofs.write_pgm.Tie as tie
 
-judge-cells-requires : tie.Need-judge-cells-requires
-judge-cells-requires c κs = search needs
+judge-picture-requires : tie.Need-judge-picture-requires
+judge-picture-requires c κs = search needs
 
 returns : tie.Need-returns
 unfolding writePgmCall
 returns c =
     let s : tie.Start = search in
-    let judged : tie.After-judge-cells = search in
+    let judged : tie.After-judge-picture = search in
     let gray = s .args .gray .now in
-    write-refused (badCells (s .args .size) (length gray)) tt (pgmFile (s .args .size) gray)
-    (s .args .out .now) (judged .judge-cells .ensures) (c .if1 .taken)
+    write-refused (pictureRefusals (s .args .size) (length gray)) tt (pgmFile (s .args .size) gray)
+    (s .args .out .now) (judged .judge-picture .ensures) (c .if1 .taken)
 
 pgm-length-requires : tie.Need-pgm-length-requires
 pgm-length-requires c κs =
     let s : tie.Start = search in
-    let judged : tie.After-judge-cells = search in
+    let judged : tie.After-judge-picture = search in
     let left : tie.Else1 = search in
-    cells-fit (s .args .size) (length (s .args .gray .now)) (judged .judge-cells .ensures) (left .if1 .left) .0
+    picture-fits (s .args .size) (length (s .args .gray .now)) (judged .judge-picture .ensures) (left .if1 .left) .0
 
 returns-2 : tie.Need-returns-2
 unfolding writePgmCall
 returns-2 c =
     let s : tie.Start = search in
-    let judged : tie.After-judge-cells = search in
+    let judged : tie.After-judge-picture = search in
     let left : tie.Else1 = search in
     let long : tie.After-pgm-length = search in
     let gray = s .args .gray .now in
-    let (_, exact) = cells-fit (s .args .size) (length gray) (judged .judge-cells .ensures) (left .if1 .left) in
+    let (_, exact) = picture-fits (s .args .size) (length gray) (judged .judge-picture .ensures) (left .if1 .left) in
     let size = pgm-length (s .args .size) gray exact in
-    write-short (badCells (s .args .size) (length gray)) tt (pgmFile (s .args .size) gray)
-    (s .args .out .now) (judged .judge-cells .ensures) (left .if1 .left)
+    write-short (pictureRefusals (s .args .size) (length gray)) tt (pgmFile (s .args .size) gray)
+    (s .args .out .now) (judged .judge-picture .ensures) (left .if1 .left)
     (omega (arith, long .pgm-length .ensures, size, c .if2 .taken))
 
 put-pgm-head-requires : tie.Need-put-pgm-head-requires
@@ -50,12 +50,12 @@ put-pgm-head-requires c κs = search needs
 negate-requires : tie.Need-negate-requires
 negate-requires c κs =
     let s : tie.Start = search in
-    let judged : tie.After-judge-cells = search in
+    let judged : tie.After-judge-picture = search in
     let left : tie.Else1 = search in
     let long : tie.After-pgm-length = search in
     let room : tie.Else2 = search in
     let put : tie.After-put-pgm-head = search in
-    let (_, exact) = cells-fit (s .args .size) (length (s .args .gray .now)) (judged .judge-cells .ensures)
+    let (_, exact) = picture-fits (s .args .size) (length (s .args .gray .now)) (judged .judge-picture .ensures)
     (left .if1 .left) in
     (omega arith, omega (arith, put .put-pgm-head .ensures .0, long .pgm-length .ensures, exact, room .if2 .left))
 
@@ -69,16 +69,16 @@ returns-3 c =
     let head : tie.After-put-pgm-head = search in
     let room : tie.Else2 = head .before .before in
     let s : tie.Start = search in
-    let judged : tie.After-judge-cells = search in
+    let judged : tie.After-judge-picture = search in
     let left : tie.Else1 = search in
     let long : tie.After-pgm-length = search in
     let z = s .args .size in
     let gray = s .args .gray .now in
     let put = head .put-pgm-head in
-    let (_, exact) = cells-fit z (length gray) (judged .judge-cells .ensures) (left .if1 .left) in
+    let (_, exact) = picture-fits z (length gray) (judged .judge-picture .ensures) (left .if1 .left) in
     let size = pgm-length z gray exact in
-    write-done (badCells z (length gray)) tt (pgmFile z gray)
-    (s .args .out .now) (judged .judge-cells .ensures) (left .if1 .left)
+    write-done (pictureRefusals z (length gray)) tt (pgmFile z gray)
+    (s .args .out .now) (judged .judge-picture .ensures) (left .if1 .left)
     (omega (arith, long .pgm-length .ensures, size, room .if2 .left)) (long .pgm-length .ensures ∙ sym size)
     (done .negate .ensures
     ∙ sym (part-next (pgmHead z) (negated gray) (s .args .out .now) (put .last .0) 0 (put .result) (put .ensures .1)
@@ -88,7 +88,7 @@ pub write-pgm-spec : {M : Type 1} → statement M
 write-pgm-spec =
     tie.close
     (tie.spec
-    judge-cells-requires
+    judge-picture-requires
     returns
     pgm-length-requires
     returns-2

@@ -2,7 +2,7 @@
 use mathlib.Core.Bool.{true, _&&_}
 use mathlib.Core.Path.{_≡_}
 use borrow.Author.Needs.{needs}
-use Rattle.model.specs.PictureHeader.{found, fieldNext}
+use Rattle.model.specs.PictureHeader.{found, numberNext}
 use Rattle.picture_header.proofs.Glyphs.{field-by}
 use Rattle.picture_header.proofs.next_number.Statement.{statement}
 use Rattle.picture_header.proofs.next_number.Tie as tie
@@ -18,7 +18,7 @@ field : (c : tie.After-read-number)
     → let a = c .before .before .before .args in
     let gap = c .before .skip-spaces .result in
     let number = c .read-number .result in
-    fieldNext (a .s .now) (a .f) ≡ found (a .f .some && (gap .some && number .some)) (number .value) (number .at)
+    numberNext (a .s .now) (a .f) ≡ found (a .f .some && (gap .some && number .some)) (number .value) (number .at)
 field c =
     field-by _ (c .before .before .before .args .f) (c .before .skip-spaces .ensures) (c .read-number .ensures .0)
 

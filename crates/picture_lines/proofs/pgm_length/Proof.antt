@@ -1,4 +1,4 @@
--- `picture_lines::pgm_length` meets its contract: the lines of magic number and maximum, that of the size, and the cells.
+-- `picture_lines::pgm_length` meets its contract: the lines of magic number, size and maximum, and the cells.
 use native.Mathlib.Omega.{arith}
 use borrow.Author.Needs.{needs}
 use Rattle.algebra.proofs.Machine.{factors-fit}

@@ -1,4 +1,4 @@
--- `picture_judge::judge_cells` meets its contract: 1 is judged first, and 5 only where it is not drawn.
+-- `picture_judge::judge_picture` meets its contract: 1 is judged first, and 5 only where it is not drawn.
 use mathlib.Core.List.{[], _∷_}
 use mathlib.Core.Path.{_≡_}
 use borrow.Author.Needs.{needs}
@@ -9,8 +9,8 @@ use Rattle.model.specs.Netpbm.{cellsIn}
 use Rattle.model.specs.PictureCalls.{badCellsLength}
 use Rattle.model.proofs.Refusal.{by-first, by-second}
 use Rattle.model.proofs.Pictures.{size-fits}
-use Rattle.picture_judge.proofs.judge_cells.Statement.{statement}
-use Rattle.picture_judge.proofs.judge_cells.Tie as tie
+use Rattle.picture_judge.proofs.judge_picture.Statement.{statement}
+use Rattle.picture_judge.proofs.judge_picture.Tie as tie
 
 judge-size-requires : tie.Need-judge-size-requires
 judge-size-requires c κs = search needs
@@ -53,5 +53,5 @@ returns-3 c =
     by-second (badSize (z .width) (z .height) ∷ []) (badCellsLength z (s .args .cells) ∷ []) tt
     (judged .judge-size .ensures) (left .if1 .left) none
 
-pub judge-cells-spec : {M : Type 1} → statement M
-judge-cells-spec = tie.close (tie.spec judge-size-requires returns mul-if2 returns-2 returns-3)
+pub judge-picture-spec : {M : Type 1} → statement M
+judge-picture-spec = tie.close (tie.spec judge-size-requires returns mul-if2 returns-2 returns-3)
