@@ -1,6 +1,7 @@
 -- How far what is read agrees with a text: up to the place where the reader stops it is the beginning of a text of the
 -- parts, with some values of any size.
 --   Agrees                      the bytes from a place on, up to another, are those of a text
+--   agrees-begins               read from the beginning: what stands before the place begins the text
 --   fixed-agrees, field-agrees  of fixed bytes; of a number and the byte that ends it
 --   parse-agrees                of parts, with the values that were read and some others after a refusal
 --   parse-rises                 the place never goes back
@@ -15,18 +16,20 @@ use native.Mathlib.Numerals.{add-one}
 use native.Mathlib.Omega.{arith}
 use borrow.Author.Tests.{ltb-true, leb-true, eqb-true}
 use lib.Dec.{leb, ltb, eqb}
-use lib.ListN.{length, drop, getD, replicate, length-append, length-replicate}
-use lib.Seq.{drop-cons, drop-drop, drop-append-seam}
+use lib.ListN.{length, take, drop, getD, replicate, length-append, length-replicate}
+use lib.Seq.{take-at, drop-cons, drop-drop, drop-append-seam}
 use Rattle.model.specs.declared.Field.{Field}
 use Rattle.model.specs.declared.Item.{Item}
 use Rattle.model.specs.declared.Item.the-variants.{Word, Number, LineEnd, Other}
 use Rattle.model.specs.Basic.{pick}
-use Rattle.model.specs.Text.{isLetter, isDigit, digits, capped, NoDigit, step, itemFrom, stepAt}
-use Rattle.model.specs.Format.{Part, fixed, number, textOf, isAt, fixedAt, field, fieldBy, fieldAt, Parsed, parse}
+use Rattle.model.specs.Text.{isLetter, isDigit, digits, capTo, NoDigit, step, itemTo, stepTo}
+use Rattle.model.specs.Format.{Part, fixed, number, textOf, isAt, fixedAt, field, fieldBy, limitOf, fieldAt}
+use Rattle.model.specs.Format.{Parsed, parse}
 use Rattle.model.proofs.Basic.{pick-cases, zero-cases}
-use Rattle.model.proofs.Text.{digits-low, and-true, Beyond, beyond, capped-inside, capped-low, number-yielded}
+use Rattle.model.proofs.Text.{digits-low, and-true, beyond, cap-inside, cap-low, number-yielded}
 use Rattle.model.proofs.Text.{yielded-number}
-use Rattle.model.proofs.Format.{numbers, Inside, OutsideAt, Good, fixed-draws}
+use Rattle.model.specs.Grammar.{numbers, Beyond, OutsideAt}
+use Rattle.model.proofs.Format.{below-limit, Inside, Good, fixed-draws}
 
 -- ---- bytes
 -- past a part
@@ -100,6 +103,21 @@ module _ {s : List ℕ} {at : ℕ} where
         whole = z;
       }
 
+-- read from the beginning: what stands before the place begins the text, whatever follows it
+pub agrees-begins : {s : List ℕ} {n o : ℕ} {t : List ℕ} (more : List ℕ) → Agrees s 0 n o t
+    → (o ≤ length s) × (rest : List ℕ) × (t ++ more ≡ take o s ++ rest)
+agrees-begins {s} {n} {o} {t} more r =
+    let k : length (r .before) ≡ o = omega (arith, r .rises) in
+    let l : length s ≡ length (r .before) + length (drop o s) =
+    ap length (r .stands) ∙ length-append (r .before) (drop o s) in
+    let w : take o s ≡ r .before = ap (take o) (r .stands) ∙ take-at (r .before) (drop o s) o k in (
+      omega arith,
+      r .rest ++ more,
+      ap (λ (a : List ℕ). a ++ more) (r .text)
+          ∙ append-assoc (r .before) (r .rest) more
+          ∙ ap (λ (a : List ℕ). a ++ (r .rest ++ more)) (sym w),
+    )
+
 -- one byte
 byte-agrees : (s : List ℕ) (at b : ℕ) → isAt b s at ≡ true → Agrees s at 0 (at + 1) (b ∷ [])
 byte-agrees s at b t = agrees-part (b ∷ []) [] (drop (at + 1) s) (λ e. refl) (byte-stands s at b t)
@@ -119,9 +137,9 @@ fixed-agrees (b ∷ bs) s at = go (isAt b s at) refl (fixed-agrees bs s (at + 1)
 abbrev Placed : ℕ → List ℕ → ℕ → Type 0
 Placed at xs o = (o ≡ at) ⊎ ((ys : List ℕ) × (xs ≡ 48 ∷ ys) × (o ≡ at + 1))
 
-item-place : (at : ℕ) (xs : List ℕ) → Placed at xs (itemFrom at xs .at)
-item-place at [] = inl refl
-item-place at (x ∷ xs) = go (isLetter x) refl (isDigit x) refl (eqb x 10) refl
+item-place : (limit at : ℕ) (xs : List ℕ) → Placed at xs (itemTo limit at xs .at)
+item-place limit at [] = inl refl
+item-place limit at (x ∷ xs) = go (isLetter x) refl (isDigit x) refl (eqb x 10) refl
   where
     numbered : (a b : Bool) (v e : ℕ) → (a ≡ true → x ≡ 48)
         → Placed at (x ∷ xs) (pick (a && b) (step Other (at + 1) (at + 1)) (step (Number v) at e) .at)
@@ -130,18 +148,18 @@ item-place at (x ∷ xs) = go (isLetter x) refl (isDigit x) refl (eqb x 10) refl
     numbered false b v e h = inl refl
 
     go : (a : Bool) → isLetter x ≡ a → (b : Bool) → isDigit x ≡ b → (d : Bool) → eqb x 10 ≡ d
-        → Placed at (x ∷ xs) (itemFrom at (x ∷ xs) .at)
+        → Placed at (x ∷ xs) (itemTo limit at (x ∷ xs) .at)
     go true t b u d w = rw t (inl refl)
     go false t true u d w = rw (t, u) (numbered (eqb x 48) _ _ _ (eqb-true x 48))
     go false t false u true w = rw (t, u, w) (inl refl)
     go false t false u false w = rw (t, u, w) (inl refl)
 
 -- so up to there 0 stands, or nothing
-item-agrees : {n : ℕ} (s : List ℕ) (at : ℕ) (end : List ℕ) → (n ≡ 0 → ⊥)
-    → Agrees s at n (stepAt s at .at) (digits 0 ++ end)
-item-agrees {n} s at end z = go (item-place at (drop at s))
+item-agrees : {n : ℕ} (limit : ℕ) (s : List ℕ) (at : ℕ) (end : List ℕ) → (n ≡ 0 → ⊥)
+    → Agrees s at n (stepTo limit s at .at) (digits 0 ++ end)
+item-agrees {n} limit s at end z = go (item-place limit at (drop at s))
   where
-    go : Placed at (drop at s) (stepAt s at .at) → Agrees s at n (stepAt s at .at) (digits 0 ++ end)
+    go : Placed at (drop at s) (stepTo limit s at .at) → Agrees s at n (stepTo limit s at .at) (digits 0 ++ end)
     go (inl e) = rw e (agrees-none (λ y. absurd (z y)))
     go (inr (ys, d, e)) = rw (e, digits-low 0 (omega arith)) (agrees-part (48 ∷ []) end ys (λ y. absurd (z y)) d)
 
@@ -155,35 +173,38 @@ Numbered lo hi end s at f =
     × (f .refusal ≡ 11
     → (rest : List ℕ) × (drop at s ≡ digits v ++ rest) × NoDigit rest × Beyond lo hi v × (f .at ≡ at))
 
-pub field-agrees : (lo hi end : ℕ) → hi ≤ 256 → (s : List ℕ) (at : ℕ)
-    → Numbered lo hi end s at (fieldAt lo hi end s at)
+pub field-agrees : (lo hi end : ℕ) (s : List ℕ) (at : ℕ) → Numbered lo hi end s at (fieldAt lo hi end s at)
 unfolding fieldAt
-field-agrees lo hi end k s at = go (stepAt s at .item) refl
+field-agrees lo hi end s at = go (stepTo limit s at .item) refl
   where
+    limit : ℕ
+    limit = limitOf hi
+
     Held : Field → Type 0
     Held = Numbered lo hi end s at
 
-    none : Held (field 10 (stepAt s at .at) 0)
+    none : Held (field 10 (stepTo limit s at .at) 0)
     none = (
       0,
-      item-agrees s at (end ∷ []) (λ y. omega arith),
+      item-agrees limit s at (end ∷ []) (λ y. omega arith),
       λ y. absurd (omega arith),
       λ y. absurd (omega arith),
     )
 
     numbered : (v : ℕ) (rest : List ℕ) → drop at s ≡ digits v ++ rest → NoDigit rest
-        → Held (fieldBy lo hi end s (Number (capped v)) at (at + length (digits v)))
+        → Held (fieldBy lo hi end s (Number (capTo limit v)) at (at + length (digits v)))
     numbered v rest p nd =
-        rw (capped-inside lo hi v k) (pick-cases Held (leb lo v && leb v hi) inside outside)
+        rw (cap-inside limit lo hi v (below-limit hi)) (pick-cases Held (leb lo v && leb v hi) inside outside)
       where
         e : ℕ
         e = at + length (digits v)
 
-        inside : leb lo v && leb v hi ≡ true → Held (pick (isAt end s e) (field 0 (e + 1) (capped v)) (field 10 e 0))
+        inside : leb lo v && leb v hi ≡ true
+            → Held (pick (isAt end s e) (field 0 (e + 1) (capTo limit v)) (field 10 e 0))
         inside t =
             let (l, u) = and-true (leb lo v) (leb v hi) t in
             let h = leb-true v hi u in
-            let c = capped-low v (omega arith) in
+            let c = cap-low limit v (omega (arith, h, below-limit hi)) in
             let d : Agrees s at 0 e (digits v ++ []) = agrees-part (digits v) [] rest (λ y. refl) p in
             pick-cases Held (isAt end s e)
             (λ f. (
@@ -207,14 +228,14 @@ field-agrees lo hi end k s at = go (stepAt s at .item) refl
           λ y. (rest, p, nd, beyond lo hi v t, refl),
         )
 
-    go : (i : Item) → stepAt s at .item ≡ i
-        → Held (fieldBy lo hi end s (stepAt s at .item) (stepAt s at .at) (stepAt s at .next))
+    go : (i : Item) → stepTo limit s at .item ≡ i
+        → Held (fieldBy lo hi end s (stepTo limit s at .item) (stepTo limit s at .at) (stepTo limit s at .next))
     go Word q = rw q none
     go LineEnd q = rw q none
     go Other q = rw q none
     go (Number w) q =
-        let (v, rest, p, nd, _) = yielded-number s at w q in
-        rw (number-yielded s at v rest p nd) (numbered v rest p nd)
+        let (v, rest, p, nd, _) = yielded-number limit s at w q in
+        rw (number-yielded limit s at v rest p nd) (numbered v rest p nd)
 
 -- a whole run of digits stands at the place o: the number of one of the values, which is outside its field
 pub record Misses (ps : List Part) (s : List ℕ) (at : ℕ) (vs : List ℕ) (o : ℕ) : Type 0 where
@@ -278,7 +299,7 @@ Completed ps s at r =
     × (r .refusal ≡ 0 → (vs ≡ r .values) × Inside ps vs)
     × (r .refusal ≡ 11 → Misses ps s at vs (r .at))
 
-abbrev zeros : List Part → List ℕ
+abbrev pub zeros : List Part → List ℕ
 zeros ps = replicate (numbers ps) 0
 
 pub parse-agrees : (ps : List Part) → Good ps → (s : List ℕ) (at : ℕ) → Completed ps s at (parse ps s at)
@@ -302,8 +323,8 @@ parse-agrees (fixed bs ∷ ps) g s at =
     never (inr e) y = omega arith
 parse-agrees (number lo hi end ∷ ps) g s at =
     let f = fieldAt lo hi end s at in
-    let (v, a, h, out) = field-agrees lo hi end (g .0) s at in
-    let (vs, l, r, w, x) = parse-agrees ps (g .2) s (f .at) in
+    let (v, a, h, out) = field-agrees lo hi end s at in
+    let (vs, l, r, w, x) = parse-agrees ps (g .1) s (f .at) in
     zero-cases (Completed (number lo hi end ∷ ps) s at) (f .refusal)
     (λ z. (
       v ∷ vs,

@@ -25,7 +25,7 @@ use Rattle.model.specs.Reference.{Tried, accepted, declined, Performed}
 use Rattle.model.specs.Reference.{statsOf, attempt, decided}
 use Rattle.model.specs.Calls.{result, Buffers, withTable, laterCall, toggleCall, swapCall}
 use Rattle.model.specs.Lists.{tried, latest}
-use Rattle.model.specs.Promises.{Verdict, Tries}
+use Rattle.model.specs.Promises.{Weighed, Tries}
 use Rattle.model.proofs.Basic.{pick-cases}
 use Rattle.model.proofs.Error.{filtered-long}
 use Rattle.model.proofs.State.{below, at-least}
@@ -181,7 +181,7 @@ module _ (m : Measures) (psf gray dots : List ℕ) (table : List ℤ) (s : Stats
         error-is-sum = kept .state .error-is;
         answer-is-reference = refl;
         dots-are-reference = refl;
-        verdict = verdict;
+        weighed = weighed;
         is-accepted = fits-later m psf gray _ _ _ kept;
       }
     where
@@ -189,10 +189,10 @@ module _ (m : Measures) (psf gray dots : List ℕ) (table : List ℤ) (s : Stats
       long = f .plate .halftone .dots-length
 
       Decided : Performed Tried → Type 0
-      Decided done = Verdict m psf gray dots table s v (withTable target (done .after .dots)) (done .answer)
+      Decided done = Weighed m psf gray dots table s v (withTable target (done .after .dots)) (done .answer)
 
-      verdict : Decided (doing v)
-      verdict =
+      weighed : Decided (doing v)
+      weighed =
           attempt-cases target (reference dots s) v Decided
           (λ l. (
             refl,

@@ -17,7 +17,7 @@ use Rattle.model.specs.Scan.{toggles, swapsBy, tryEach, sweepTo, converg
 use Rattle.model.specs.Calls.{laterCall, startCall, toggleCall, swapCall, convergeCall}
 use Rattle.model.specs.Text.{digits}
 use Rattle.model.specs.Sheet.{names, psfName, grayName, dotsName, sheetText}
-use Rattle.model.specs.Format.{head, body, fieldAt, headOf, bodyEnd, readSheet}
+use Rattle.model.specs.Format.{headFrom, body, fieldAt, headBy, bodyEnd, readSheet}
 use Rattle.model.specs.Program.{refusedText, figuresText, processedText, output}
 use Rattle.model.specs.Examples.{workedInput, workedOutput, Examples, dark, darkDots, light, lightDots, OneSided}
 use Rattle.model.specs.Change.{made, toggle, swap, change, lookFrom}
@@ -30,7 +30,7 @@ unfolding sumTo sumFrom tabulate gridAt squareAt psfAt autocorrelation kernel er
     made toggle swap raised accept statsOf change attempt laterCall toggleCall swapCall
     laterRefusal startRefusal freshStats startCall offsetsOf offsetsFrom offsets toggles swapsBy lookFrom tryEach
     sweepTo convergeIn convergeFrom converge convergeCall digits names psfName grayName dotsName sheetText
-    head body fieldAt headOf bodyEnd readSheet refusedText figuresText processedText output workedInput workedOutput
+    headFrom body fieldAt headBy bodyEnd readSheet refusedText figuresText processedText output workedInput workedOutput
 examples =
     record {
       black-blank = refl;

@@ -1,16 +1,21 @@
 -- Laws of a format: which values its parts ask for, and how their text and their reading go on to the parts after them.
---   numbers, Inside, OutsideAt   how many values; each in its field; one outside its field
---   good-head, good-body         every field of a sheet ends at 256 at the latest, and no number is ended by a digit
+--   Inside                       as many values as numbers, each in its field
+--   below-limit                  the limit that a number is read under is above its field
+--   good-head, good-body         no number of a sheet is ended by a digit
+--   good-append                  nor of parts after parts that are so
 --   text-append                  the text of parts after parts
+--   outside-left, outside-right  a value outside its field among parts after parts
+--   outside-cases                and back
+--   outside-text                 such a value stands in the text after the text before it
 --   parse-append, parse-refused  reading parts after parts that were read, and after parts that were refused
 --   parse-draws                  the refusals are 10 and 11
 use mathlib.Core.Path.{_≡_, refl, _∙_, ap, sym}
 use mathlib.Core.Bool.{false, _&&_}
 use mathlib.Core.Logic.{_⊎_, inl, inr, ⊎-elim}
 use mathlib.Core.List.{List, [], _∷_, _++_, append-assoc}
-use Prim.Native.Nat.{ℕ, zero, suc, _+_, _%_, _≤_}
+use Prim.Native.Nat.{ℕ, zero, suc, _+_, _%_, _≤_, _<_}
 use native.Mathlib.Omega.{arith}
-use borrow.Author.Tests.{eq-eqb, ne-eqb}
+use borrow.Author.Tests.{leb-true, eq-eqb, ne-eqb}
 use lib.Dec.{leb, eqb}
 use lib.ListN.{length, drop}
 use Rattle.model.specs.declared.Field.{Field}
@@ -18,21 +23,17 @@ use Rattle.model.specs.declared.Item.{Item}
 use Rattle.model.specs.declared.Item.the-variants.{Word, Number, LineEnd, Other}
 use Rattle.model.specs.declared.Measures.{Measures}
 use Rattle.model.specs.declared.Place.{Place}
-use Rattle.model.specs.Text.{isDigit, digits, capped, NoDigit, step, stepAt}
+use Rattle.model.specs.Text.{isDigit, digits, capTo, NoDigit, step, stepTo}
 use Rattle.model.specs.Sheet.{sideOf, entriesOf, cellsOf, endOf}
-use Rattle.model.specs.Format.{Part, fixed, number, grid, head, psfBlock, grayBlock, dotsBlock, body, textOf}
-use Rattle.model.specs.Format.{isAt, fixedAt, field, fieldBy, fieldAt, Parsed, parsed, onFixed, onField, parse}
+use Rattle.model.specs.Format.{Part, fixed, number, grid, headFrom, psfBlock, grayBlock, dotsBlock, body, textOf}
+use Rattle.model.specs.Format.{isAt, fixedAt, field, fieldBy, limitOf, fieldAt, Parsed, parsed, onFixed}
+use Rattle.model.specs.Format.{onField, parse}
 use Rattle.model.specs.Format.{placeOf, parseNext}
 use Rattle.model.proofs.Basic.{pick-cases, zero-cases, pick-cong}
-use Rattle.model.proofs.Text.{Beyond, beyond-false, capped-inside, number-yielded}
+use Rattle.model.specs.Grammar.{numbers, Beyond, OutsideAt}
+use Rattle.model.proofs.Text.{beyond-false, cap-inside, number-yielded}
 
 -- ---- which values there are
--- how many numbers there are among the parts
-abbrev pub numbers : List Part → ℕ
-numbers [] = 0
-numbers (fixed bs ∷ ps) = numbers ps
-numbers (number lo hi end ∷ ps) = suc (numbers ps)
-
 -- as many values as numbers, each in its field
 abbrev pub Inside : List Part → List ℕ → Type 0
 Inside [] [] = Unit
@@ -48,47 +49,42 @@ inside-length (fixed bs ∷ ps) vs i = inside-length ps vs i
 inside-length (number lo hi end ∷ ps) [] i = absurd i
 inside-length (number lo hi end ∷ ps) (v ∷ vs) i = ap suc (inside-length ps vs (i .2))
 
--- one of the values, v, is outside its field, and the text before it
-abbrev pub OutsideAt : List Part → (vs before : List ℕ) (v : ℕ) → Type 0
-OutsideAt [] vs before v = ⊥
-OutsideAt (fixed bs ∷ ps) vs before v = (t : List ℕ) × (before ≡ bs ++ t) × OutsideAt ps vs t v
-OutsideAt (number lo hi end ∷ ps) [] before v = ⊥
-OutsideAt (number lo hi end ∷ ps) (u ∷ us) before v =
-    ((before ≡ []) × (v ≡ u) × Beyond lo hi v)
-    ⊎ ((t : List ℕ) × (before ≡ digits u ++ (end ∷ t)) × OutsideAt ps us t v)
+-- the limit that a number is read under is above its field
+pub below-limit : (hi : ℕ) → hi < limitOf hi
+below-limit hi =
+    pick-cases (λ l. hi < l) (leb hi 256) (λ t. omega (arith, leb-true hi 256 t)) (λ t. omega arith)
 
--- every field ends at 256 at the latest, and no number is ended by a digit
+-- no number is ended by a digit
 abbrev pub Good : List Part → Type 0
 Good [] = Unit
 Good (fixed bs ∷ ps) = Good ps
-Good (number lo hi end ∷ ps) = (hi ≤ 256) × (isDigit end ≡ false) × Good ps
+Good (number lo hi end ∷ ps) = (isDigit end ≡ false) × Good ps
 
 end-no-digit : (w i : ℕ) → isDigit (endOf w i) ≡ false
 end-no-digit w i = pick-cases (λ b. isDigit b ≡ false) (eqb ((i + 1) % w) 0) (λ t. refl) (λ t. refl)
 
-good-append : (a b : List Part) → Good a → Good b → Good (a ++ b)
+pub good-append : (a b : List Part) → Good a → Good b → Good (a ++ b)
 good-append [] b g h = h
 good-append (fixed bs ∷ a) b g h = good-append a b g h
-good-append (number lo hi end ∷ a) b g h = (g .0, g .1, good-append a b (g .2) h)
+good-append (number lo hi end ∷ a) b g h = (g .0, good-append a b (g .1) h)
 
-good-grid : (w hi i n : ℕ) → hi ≤ 256 → Good (grid w hi i n)
-good-grid w hi i zero h = tt
-good-grid w hi i (suc n) h = (h, end-no-digit w i, good-grid w hi (i + 1) n h)
+good-grid : (w hi i n : ℕ) → Good (grid w hi i n)
+good-grid w hi i zero = tt
+good-grid w hi i (suc n) = (end-no-digit w i, good-grid w hi (i + 1) n)
 
-pub good-head : Good head
-unfolding head
-good-head =
-    (omega arith, refl, (omega arith, refl, (omega arith, refl, (omega arith, refl, (omega arith, refl, tt)))))
+pub good-head : (least : ℕ) → Good (headFrom least)
+unfolding headFrom
+good-head least = (refl, (refl, (refl, (refl, (refl, tt)))))
 
 pub good-body : (m : Measures) → Good (body m)
 unfolding body
 good-body m =
-    let gray = good-grid (m .width) 255 0 (cellsOf m) (omega arith) in
-    good-append (psfBlock m) (grayBlock m ++ dotsBlock m) (good-grid (sideOf m) 255 0 (entriesOf m) (omega arith))
+    let gray = good-grid (m .width) 255 0 (cellsOf m) in
+    good-append (psfBlock m) (grayBlock m ++ dotsBlock m) (good-grid (sideOf m) 255 0 (entriesOf m))
     (good-append (grayBlock m) (dotsBlock m) gray dots)
   where
     dots : Good (dotsBlock m)
-    dots = pick-cases Good (eqb (m .start) 2) (λ t. good-grid (m .width) 1 0 (cellsOf m) (omega arith)) (λ t. tt)
+    dots = pick-cases Good (eqb (m .start) 2) (λ t. good-grid (m .width) 1 0 (cellsOf m)) (λ t. tt)
 
 -- ---- the text of parts and of parts after them
 pub text-append : (a b : List Part) (vs us : List ℕ) → length vs ≡ numbers a
@@ -102,14 +98,83 @@ text-append (number lo hi end ∷ a) b (v ∷ vs) us e =
     ap (λ (l : List ℕ). digits v ++ (end ∷ l)) (text-append a b vs us (omega arith))
     ∙ sym (append-assoc (digits v) (end ∷ textOf a vs) (textOf b us))
 
+-- ---- a value outside its field
+-- parts after parts
+pub outside-left : (a c : List Part) (vs us t : List ℕ) (v : ℕ) → OutsideAt a vs t v → OutsideAt (a ++ c) (vs ++ us) t v
+outside-left [] c vs us t v o = absurd o
+outside-left (fixed bs ∷ a) c vs us t v (t′, e, o) = (t′, e, outside-left a c vs us t′ v o)
+outside-left (number lo hi end ∷ a) c [] us t v o = absurd o
+outside-left (number lo hi end ∷ a) c (w ∷ vs) us t v (inl o) = inl o
+outside-left (number lo hi end ∷ a) c (w ∷ vs) us t v (inr (t′, e, o)) =
+    inr (t′, e, outside-left a c vs us t′ v o)
+
+pub outside-right : (a c : List Part) (vs us t : List ℕ) (v : ℕ) → length vs ≡ numbers a → OutsideAt c us t v
+    → OutsideAt (a ++ c) (vs ++ us) (textOf a vs ++ t) v
+outside-right [] c [] us t v l o = o
+outside-right [] c (w ∷ vs) us t v l o = absurd (omega arith)
+outside-right (fixed bs ∷ a) c vs us t v l o =
+    (textOf a vs ++ t, append-assoc bs (textOf a vs) t, outside-right a c vs us t v l o)
+outside-right (number lo hi end ∷ a) c [] us t v l o = absurd (omega arith)
+outside-right (number lo hi end ∷ a) c (w ∷ vs) us t v l o = inr (
+  textOf a vs ++ t,
+  append-assoc (digits w) (end ∷ textOf a vs) t,
+  outside-right a c vs us t v (omega arith) o,
+)
+
+pub outside-cases : (a c : List Part) (vs us t : List ℕ) (v : ℕ) → length vs ≡ numbers a
+    → OutsideAt (a ++ c) (vs ++ us) t v
+    → OutsideAt a vs t v ⊎ ((t′ : List ℕ) × (t ≡ textOf a vs ++ t′) × OutsideAt c us t′ v)
+outside-cases [] c [] us t v l o = inr (t, refl, o)
+outside-cases [] c (w ∷ vs) us t v l o = absurd (omega arith)
+outside-cases (fixed bs ∷ a) c vs us t v l (t′, e, o) = go (outside-cases a c vs us t′ v l o)
+  where
+    go : OutsideAt a vs t′ v ⊎ ((u : List ℕ) × (t′ ≡ textOf a vs ++ u) × OutsideAt c us u v)
+        → OutsideAt (fixed bs ∷ a) vs t v
+        ⊎ ((u : List ℕ) × (t ≡ textOf (fixed bs ∷ a) vs ++ u) × OutsideAt c us u v)
+    go (inl q) = inl (t′, e, q)
+    go (inr (u, f, q)) = inr (u, e ∙ ap (λ x. bs ++ x) f ∙ sym (append-assoc bs (textOf a vs) u), q)
+outside-cases (number lo hi end ∷ a) c [] us t v l o = absurd (omega arith)
+outside-cases (number lo hi end ∷ a) c (w ∷ vs) us t v l (inl o) = inl (inl o)
+outside-cases (number lo hi end ∷ a) c (w ∷ vs) us t v l (inr (t′, e, o)) =
+    go (outside-cases a c vs us t′ v (omega arith) o)
+  where
+    go : OutsideAt a vs t′ v ⊎ ((u : List ℕ) × (t′ ≡ textOf a vs ++ u) × OutsideAt c us u v)
+        → OutsideAt (number lo hi end ∷ a) (w ∷ vs) t v
+        ⊎ ((u : List ℕ) × (t ≡ textOf (number lo hi end ∷ a) (w ∷ vs) ++ u) × OutsideAt c us u v)
+    go (inl q) = inl (inr (t′, e, q))
+    go (inr (u, f, q)) = inr (
+      u,
+      e ∙ ap (λ x. digits w ++ (end ∷ x)) f ∙ sym (append-assoc (digits w) (end ∷ textOf a vs) u),
+      q,
+    )
+
+-- it stands in the text after the text before it
+pub outside-text : (ps : List Part) (vs before : List ℕ) (v : ℕ) → OutsideAt ps vs before v
+    → (more : List ℕ) × (textOf ps vs ≡ before ++ (digits v ++ more))
+outside-text [] vs before v o = absurd o
+outside-text (fixed bs ∷ ps) vs before v (t, e, o) =
+    let (more, f) = outside-text ps vs t v o in
+    (more, ap (λ l. bs ++ l) f ∙ sym (append-assoc bs t (digits v ++ more)) ∙ ap (λ l. l ++ (digits v ++ more)) (sym e))
+outside-text (number lo hi end ∷ ps) [] before v o = absurd o
+outside-text (number lo hi end ∷ ps) (u ∷ us) before v (inl (e, f, o)) =
+    (end ∷ textOf ps us, rw (e, f))
+outside-text (number lo hi end ∷ ps) (u ∷ us) before v (inr (t, e, o)) =
+    let (more, f) = outside-text ps us t v o in (
+      more,
+      ap (λ l. digits u ++ (end ∷ l)) f
+          ∙ sym (append-assoc (digits u) (end ∷ t) (digits v ++ more))
+          ∙ ap (λ l. l ++ (digits v ++ more)) (sym e),
+    )
+
 -- 11 wherever the whole run of digits of a number outside its field stands, whatever follows it
-pub field-out : (lo hi end : ℕ) (s : List ℕ) (at v : ℕ) (rest : List ℕ) → hi ≤ 256 → NoDigit rest
+pub field-out : (lo hi end : ℕ) (s : List ℕ) (at v : ℕ) (rest : List ℕ) → NoDigit rest
     → drop at s ≡ digits v ++ rest → Beyond lo hi v → fieldAt lo hi end s at ≡ field 11 at 0
 unfolding fieldAt
-field-out lo hi end s at v rest k nd e b =
-    let read : stepAt s at ≡ step (Number (capped v)) at (at + length (digits v)) =
-    number-yielded s at v rest e nd in
-    rw (read, capped-inside lo hi v k, beyond-false lo hi v b)
+field-out lo hi end s at v rest nd e b =
+    let limit = limitOf hi in
+    let read : stepTo limit s at ≡ step (Number (capTo limit v)) at (at + length (digits v)) =
+    number-yielded limit s at v rest e nd in
+    rw (read, cap-inside limit lo hi v (below-limit hi), beyond-false lo hi v b)
 
 -- ---- one part that was read
 -- fixed bytes, and what is after them
@@ -207,18 +272,18 @@ fixed-draws (b ∷ bs) s at =
 
 field-draws : (lo hi end : ℕ) (s : List ℕ) (at : ℕ) → Drawn (fieldAt lo hi end s at .refusal)
 unfolding fieldAt
-field-draws lo hi end s at = go (stepAt s at .item)
+field-draws lo hi end s at = go (stepTo (limitOf hi) s at .item)
   where
     Q : Field → Type 0
     Q f = Drawn (f .refusal)
 
-    go : (i : Item) → Q (fieldBy lo hi end s i (stepAt s at .at) (stepAt s at .next))
+    go : (i : Item) → Q (fieldBy lo hi end s i (stepTo (limitOf hi) s at .at) (stepTo (limitOf hi) s at .next))
     go Word = inr (inl refl)
     go LineEnd = inr (inl refl)
     go Other = inr (inl refl)
     go (Number v) =
         pick-cases Q (leb lo v && leb v hi)
-        (λ t. pick-cases Q (isAt end s (stepAt s at .next)) (λ u. inl refl) (λ u. inr (inl refl)))
+        (λ t. pick-cases Q (isAt end s (stepTo (limitOf hi) s at .next)) (λ u. inl refl) (λ u. inr (inl refl)))
         (λ t. inr (inr refl))
 
 pub parse-draws : (ps : List Part) (s : List ℕ) (at : ℕ) → Drawn (parse ps s at .refusal)

@@ -23,7 +23,7 @@ use Rattle.model.specs.Calls.{Reply, result, refused, Outcome, unless, B
 use Rattle.model.specs.Calls.{toggleCall, swapCall, toggleScanCall, swapScanCall, convergeCall}
 use Rattle.model.specs.Lists.{Call, toggleAt, swapAt, toggleScan, swapScan, convergence}
 use Rattle.model.specs.Lists.{Result, tried, swept, rested, Held, latest, outcome, handOn, call, callNext, run}
-use Rattle.model.specs.Interface.{statsSize, numbers, statsIn, sliceRefusal, overStats}
+use Rattle.model.specs.Interface.{statsSize, statsNumbers, statsIn, sliceRefusal, overStats}
 use Rattle.model.specs.Interface.{startOver, toggleOver, swapOver, Told}
 use Rattle.model.specs.Interface.{Slices, slicesOf, heldIn, statsAfter, leave, callOver, runOver}
 use Rattle.model.specs.Change.{Move, toggle, swap}
@@ -136,11 +136,11 @@ module _ (m : Measures) (psf gray dots : List ℕ) (table stats : List ℤ) wher
       (λ e. swap-enters m psf gray dots table (statsIn stats) row col row′ col′ e .0 .state .table-is)
 
 -- ---- lists
-pub stored-read : (s : Stats) → statsIn (numbers s) ≡ s
+pub stored-read : (s : Stats) → statsIn (statsNumbers s) ≡ s
 unfolding statsIn
 stored-read s = refl
 
-stats-after : (s : Stats) (r : Reply Result) → statsAfter (numbers s) r ≡ numbers (latest s r)
+stats-after : (s : Stats) (r : Reply Result) → statsAfter (statsNumbers s) r ≡ statsNumbers (latest s r)
 stats-after s (result (tried (accepted s′ d))) = refl
 stats-after s (result (tried (declined d))) = refl
 stats-after s (result (swept r)) = refl

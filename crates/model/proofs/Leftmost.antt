@@ -1,351 +1,238 @@
--- The leftmost refusal of a text (specs/SheetRefusal.antt) is the reader's: what is drawn is not drawn to the left of
--- the reader's place, and what the reader refuses is drawn there.
---   never-both           10 and 11 are never drawn at one place
---   read-draws-nothing   a sheet that is read draws nothing anywhere
---   refused-is-leftmost  the reader's refusal is the leftmost that is drawn
---   leftmost-is-refused  the leftmost that is drawn is the reader's
+-- A sheet is refused for the leftmost that is drawn (specs/SheetRefusal.antt), as the reader by its grammar refuses.
+--   read-within                               the reader's place lies within the input
+--   read-draws-nothing                        a sheet that is read draws nothing anywhere
+--   refused-is-leftmost, leftmost-is-refused  the reader's refusal is the leftmost that is drawn, and the other way
 use mathlib.Core.Path.{_≡_, refl, _∙_, ap, ap₂, sym, subst}
-use mathlib.Core.Bool.{false}
-use mathlib.Core.Logic.{_⊎_, inl, inr, ⊎-elim}
-use mathlib.Core.List.{List, [], _∷_, _++_, append-assoc}
-use Prim.Native.Nat.{ℕ, zero, suc, _+_, _≤_, _<_}
-use native.Mathlib.Decide.{ℕ-discrete, decLt}
+use mathlib.Core.Bool.{Bool}
+use mathlib.Core.Logic.{inl, inr, ⊎-elim, ⊎-map}
+use mathlib.Core.List.{List, [], _++_, append-assoc, append-nil}
+use Prim.Native.Nat.{ℕ, _≤_, _<_}
+use native.Mathlib.Decide.{decLt}
+use native.Mathlib.Nat.{le-refl}
 use native.Mathlib.Omega.{arith}
-use lib.Seq.{take-at}
-use lib.ListN.{length, take, drop, length-append, take-append-drop}
+use lib.ListN.{length, take, replicate, length-replicate}
 use Rattle.model.specs.declared.Measures.{Measures}
-use Rattle.model.specs.Text.{digits, NoDigit}
-use Rattle.model.specs.Sheet.{Sheet, roomFor, valuesOf, Shaped, InRange, Begins, Stops, headText}
-use Rattle.model.specs.SheetRefusal.{Section, line2, psfRows, grayRows, dotsRows, numbersIn, numberAt, least}
-use Rattle.model.specs.SheetRefusal.{most, textBefore, Outside, Short, Draws, Leftmost}
-use Rattle.model.specs.Format.{head, body, textOf, measuresOf, headOf, Read, sheetOf, readSheet}
-use Rattle.model.proofs.Text.{Beyond, digits-some}
-use Rattle.model.proofs.Format.{OutsideAt, good-head, good-body}
-use Rattle.model.proofs.Agrees.{parse-agrees, read-text}
-use Rattle.model.proofs.Parse.{text-read, RefusedBy, outside-read}
-use Rattle.model.proofs.Sheet.{lines-refused, room-refused, valuesIn, values-shaped, sheet-values, five}
-use Rattle.model.proofs.Sheet.{numbers-head, head-values, first, measured, second, by-cases, head-in-range}
-use Rattle.model.proofs.Sheet.{read-exactly}
-use Rattle.model.proofs.Sections.{number-in-text, ValueOutside, head-text, line-outside, outside-line}
-use Rattle.model.proofs.Sections.{outside-body, AfterLine2, in-psf, in-gray, in-dots}
-use Rattle.model.proofs.Refused.{blank, blank-shaped, read-begins, read-within, read-draws, ten-stops}
-use Rattle.model.proofs.Refused.{twelve-lacks}
+use Rattle.model.specs.Text.{digits}
+use Rattle.model.specs.Sheet.{Sheet, entriesOf, cellsOf, dotsIn, valuesOf, sheetText, Shaped, InRange, Begins}
+use Rattle.model.specs.Sheet.{Stops, roomFor}
+use Rattle.model.specs.SheetRefusal.{numberAt, least, most, textBefore, Outside, Short, Draws, Leftmost}
+use Rattle.model.specs.Format.{headFrom, headBy, textOf, measuresOf, sheetOf, readSheet}
+use Rattle.model.specs.Grammar.{Beyond, OutsideAt, partsOf, StopsText, OutsideText, ShortText, DrawsText}
+use Rattle.model.specs.Grammar.{readByGrammar}
+use Rattle.model.proofs.Agrees.{Agrees, agrees-begins}
+use Rattle.model.proofs.Grammar.{first, lines-read}
+use Rattle.model.proofs.Deciding.{Beginnings, StopsHere, stops-no-text, stops-right, stops-no-number}
+use Rattle.model.proofs.Deciding.{reader-stops, Decides, nothing-drawn, decides-leftmost, leftmost-decides}
+use Rattle.model.proofs.GrammarRefused.{Reached, reached, read-local, text-never, lines-refuse, grammar-decides}
+use Rattle.model.proofs.Sheet.{sheetGrammar, bodyText, text-head, valuesIn, text-parts, values-shaped}
+use Rattle.model.proofs.Sheet.{values-in-length, sheet-values, inside-head, formed, sheetTaken, read-taken}
+use Rattle.model.proofs.Sheet.{head-in-range, read-exactly}
+use Rattle.model.proofs.Sections.{number-in-text, number-outside, outside-number}
 
--- ---- a text with fewer bytes
-begins-less : (q r : List ℕ) → Begins (q ++ r) → Begins q
-begins-less q r f =
-    record { sheet = f .sheet; shaped = f .shaped; rest = r ++ f .rest; text = f .text ∙ append-assoc q r (f .rest) }
+-- ---- the beginnings of sheets
+-- the text of a sheet, its numbers of any size
+abbrev IsSheet : List ℕ → Type 0
+IsSheet b = (s : Sheet) × Shaped s × (b ≡ sheetText s)
 
-take-less : (k n : ℕ) (b : List ℕ) → k ≤ n → (r : List ℕ) × (take n b ≡ take k b ++ r)
-take-less zero n b h = (take n b, refl)
-take-less (suc k) zero b h = absurd (omega arith)
-take-less (suc k) (suc n) [] h = ([], refl)
-take-less (suc k) (suc n) (x ∷ b) h =
-    let (r, e) = take-less k n b (omega arith) in (r, ap (λ l. x ∷ l) e)
+beginnings : Beginnings IsSheet Begins
+beginnings = record {
+  goes-on = λ q f. (f .rest, (f .sheet, f .shaped, sym (f .text)));
+  begins = λ q rest t. record { sheet = t .0; shaped = t .1; rest = rest; text = sym (t .2) };
+}
 
-begins-before : (k n : ℕ) (b : List ℕ) → k ≤ n → Begins (take n b) → Begins (take k b)
-begins-before k n b h f =
-    let (r, e) = take-less k n b h in begins-less (take k b) r (subst Begins e f)
+-- what stands before the reader's place begins one
+abbrev BeginsTo : List ℕ → ℕ → Type 0
+BeginsTo b o = (o ≤ length b) × Begins (take o b)
 
--- 10 and 11 are never drawn at one place: where a number of a sheet stands, that sheet goes on
-pub never-both : {b : List ℕ} {o : ℕ} → Stops b o → Outside b o → ⊥
-never-both {b} {o} z n =
-    ⊎-elim (λ h. h .1 (begins-before (o + 1) (length q) b (omega (arith, l, some)) (subst Begins (sym w) begun)))
-    (λ h. omega (arith, h .0, l, some, ap length e, length-append q (n .rest))) (z .here)
+agreed : {b : List ℕ} {n o : ℕ} {t : List ℕ} (s : Sheet) → Shaped s → (more : List ℕ) → sheetText s ≡ t ++ more
+    → Agrees b 0 n o t → BeginsTo b o
+agreed s h more e a =
+    let (l, rest, w) = agrees-begins more a in (l, record { sheet = s; shaped = h; rest = rest; text = e ∙ w })
+
+-- in lines 1 and 2: a sheet with such measures
+unfoldable blank : Measures → Sheet
+blank m = record {
+  measures = m;
+  psf = replicate (entriesOf m) 0;
+  gray = replicate (cellsOf m) 0;
+  dots = replicate (dotsIn m) 0;
+}
+
+blank-shaped : (m : Measures) → Shaped (blank m)
+unfolding blank
+blank-shaped m = record {
+  psf-length = length-replicate (entriesOf m) 0;
+  gray-length = length-replicate (cellsOf m) 0;
+  dots-length = length-replicate (dotsIn m) 0;
+}
+
+-- after them: the sheet of the completed values
+reached-begins : {b : List ℕ} {o : ℕ} → Reached sheetGrammar formed b o → BeginsTo b o
+unfolding blank
+reached-begins (inl (m, n, a)) = agreed (blank m) (blank-shaped m) (bodyText (blank m)) (text-head (blank m)) a
+reached-begins (inr (m, vs, n, i, l, a)) =
+    let s = sheetOf m vs in
+    let h = values-shaped m vs l in
+    let e = ap (λ u. textOf (partsOf sheetGrammar m) (valuesOf m ++ u)) (sheet-values m vs) in
+    agreed s h [] (text-parts s h (inside-head m i .wide .0) ∙ e ∙ sym (append-nil _)) a
+
+-- the text of a sheet never draws refusal 10
+sheet-never : (room : Measures → Bool) (b : List ℕ) → IsSheet b → readByGrammar sheetGrammar room b .refusal ≡ 10 → ⊥
+unfolding headBy
+sheet-never room b (s, shaped, e) z = go (decLt 0 (s .measures .width))
   where
-    v : ℕ
-    v = numberAt (n .section) (n .sheet) (n .index)
+    go : Dec (0 < s .measures .width) → ⊥
+    go (yes h) =
+        text-never sheetGrammar formed room b (record {
+          measures = s .measures;
+          values = valuesIn s;
+          long = values-in-length s shaped;
+          text = e ∙ text-parts s shaped (omega arith);
+        }) z
+    go (no h) =
+        ⊎-elim
+        (λ r.
+        let i = subst InRange (ap measuresOf (r .1)) (head-in-range b (r .0)) in
+        h (omega (arith, i .wide .0)))
+        (λ r. omega (arith, lines-refuse sheetGrammar formed room b (first sheetGrammar b .at) (r .0) (le-refl _) .0))
+        (lines-read sheetGrammar formed b (s .measures) (bodyText s) (e ∙ text-head s))
 
-    before : List ℕ
-    before = textBefore (n .section) (n .sheet) (n .index)
+-- no sheet goes on, as `Stops` says it
+stops-here : {b : List ℕ} {o : ℕ} → Stops b o → StopsHere IsSheet Begins b o
+stops-here z = ⊎-map (λ h. h) (λ h. (h .0, λ t. h .1 (t .0) (t .1) (t .2))) (z .here)
 
-    q : List ℕ
-    q = before ++ digits v
+module _ (b : List ℕ) where
+  -- ---- 11: a number of a sheet is a value of its text, and back
+  outside-value : {o : ℕ} → Outside b o → OutsideText sheetGrammar b o
+  outside-value x =
+      let s = x .sheet in
+      record {
+        measures = s .measures;
+        values = valuesIn s;
+        long = values-in-length s (x .shaped);
+        before = textBefore (x .section) s (x .index);
+        value = numberAt (x .section) s (x .index);
+        rest = x .rest;
+        outside = number-outside s (x .shaped) (x .section) (x .index) (x .number) (x .outside);
+        text = x .text;
+        run = x .run;
+        place = x .place;
+      }
 
-    some : 1 ≤ length (digits v)
-    some = digits-some v
-
-    l : length q ≡ o + length (digits v)
-    l = length-append before (digits v) ∙ ap (λ k. k + length (digits v)) (sym (n .place))
-
-    e : b ≡ q ++ n .rest
-    e = n .text ∙ sym (append-assoc before (digits v) (n .rest))
-
-    w : take (length q) b ≡ q
-    w = ap (take (length q)) e ∙ take-at q (n .rest) (length q) refl
-
-    begun : Begins q
-    begun =
-        let (more, f) = number-in-text (n .sheet) (n .shaped) (n .section) (n .index) (n .number) in
-        record {
-          sheet = n .sheet;
-          shaped = n .shaped;
-          rest = more;
-          text = f ∙ sym (append-assoc before (digits v) more);
-        }
-
-module _ (b : List ℕ) (p g d : ℕ) where
-  -- ---- what is drawn is not read, and not to the left of the reader's place
-  -- 10
-  stops-unread : {o : ℕ} → Stops b o → readSheet b p g d .refusal ≡ 0 → ⊥
-  stops-unread {o} z y =
-      let s = readSheet b p g d .sheet in
-      let (e, v, _) = read-exactly b p g d s (y, refl) in
-      let text = sym e ∙ sym (take-append-drop (o + 1) b) in
-      ⊎-elim (λ h. h .1 (record { sheet = s; shaped = v .shaped; rest = drop (o + 1) b; text = text }))
-      (λ h. h .1 s (v .shaped) e) (z .here)
-
-  stops-right : {o : ℕ} → Stops b o → readSheet b p g d .at ≤ o
-  stops-right {o} z =
-      ⊎-elim (λ h. go h (decLt o (readSheet b p g d .at))) (λ h. omega (arith, read-within b p g d)) (z .here)
-    where
-      go : (o < length b) × (Begins (take (o + 1) b) → ⊥) → Dec (o < readSheet b p g d .at) → readSheet b p g d .at ≤ o
-      go h (yes l) = absurd (h .1 (begins-before (o + 1) (readSheet b p g d .at) b (omega arith) (read-begins b p g d)))
-      go h (no l) = omega arith
-
-  -- lines 1 and 2: read, or refused within them
-  abbrev HeadRead : Measures → List ℕ → Type 0
-  HeadRead m t =
-      ((first b .refusal ≡ 0)
-      × (measured b ≡ m)
-      × (drop (first b .at) b ≡ t)
-      × (first b .at ≡ length (headText m)))
-      ⊎ ((first b .refusal ≡ 11) × (first b .at < length (headText m)))
-
-  head-read : (m : Measures) (t : List ℕ) → b ≡ headText m ++ t → HeadRead m t
-  head-read m t e =
-      ⊎-elim (λ r. inl (r .0, ap measuresOf (r .1), r .2, omega (arith, r .3, l)))
-      (λ r. inr (r .0, omega (arith, r .1, l)))
-      (text-read head good-head b 0 (valuesOf m) t (sym numbers-head) (e ∙ ap (λ k. k ++ t) (sym (head-text m))))
-    where
-      l : length (textOf head (valuesOf m)) ≡ length (headText m)
-      l = ap length (head-text m)
-
-  lines-refuse : first b .refusal ≡ 11 → let r = readSheet b p g d in (r .refusal ≡ 11) × (r .at ≡ first b .at)
-  lines-refuse y =
-      let e = lines-refused b p g d (λ x. omega arith) in
-      (ap (λ (r : Read). r .refusal) e ∙ y, ap (λ (r : Read). r .at) e)
-
-  -- 12
-  short-right : {o : ℕ} → Short b p g d o → let r = readSheet b p g d in
-      ((r .refusal ≡ 12) × (r .at ≡ o)) ⊎ ((r .refusal ≡ 11) × (r .at < o))
-  short-right {o} z = go (head-read (z .measures) (z .rest) (z .text))
-    where
-      go : HeadRead (z .measures) (z .rest) → let r = readSheet b p g d in
-          ((r .refusal ≡ 12) × (r .at ≡ o)) ⊎ ((r .refusal ≡ 11) × (r .at < o))
-      go (inl (y, e, _, l)) =
-          let w = room-refused b p g d y (subst (λ k. roomFor k p g d ≡ false) (sym e) (z .lacks)) in
-          inl (ap (λ (r : Read). r .refusal) w, ap (λ (r : Read). r .at) w ∙ l ∙ sym (z .place))
-      go (inr (y, l)) = let (e, q) = lines-refuse y in inr (e, omega (arith, z .place))
-
-  -- 11
-  outside-right : {o : ℕ} → Outside b o → let r = readSheet b p g d in
-      ((r .refusal ≡ 11) ⊎ (r .refusal ≡ 12)) × (r .at ≤ o)
-  unfolding headOf
-  outside-right {o} z = by-section (z .section) (z .number) (z .text) (z .outside) (z .place)
-    where
-      s : Sheet
-      s = z .sheet
-
-      m : Measures
-      m = s .measures
-
-      i : ℕ
-      i = z .index
-
-      Q : Read → Type 0
-      Q r = ((r .refusal ≡ 11) ⊎ (r .refusal ≡ 12)) × (r .at ≤ o)
-
-      in-lines : first b .refusal ≡ 11 → first b .at ≤ o → Q (readSheet b p g d)
-      in-lines y l = let (e, q) = lines-refuse y in (inl e, omega arith)
-
-      under-lines : first b .refusal ≡ 0 → first b .at ≤ o → RefusedBy (body (measured b)) b (first b .at) o
-          → Q (readSheet b p g d)
-      under-lines y k (e, l) =
-          by-cases {Q = Q} (record {
-            cut-head = λ x. absurd (x y);
-            no-room = λ x f. (inr refl, k);
-            cut-body = λ x f _. (inl e, l);
-            too-long = λ x f h. absurd (omega arith);
-            whole = λ x f h. absurd (omega arith);
-          })
-
-      below : (k : Section) → AfterLine2 s k i → let v = numberAt k s i in
-          i < length (numbersIn k s) → b ≡ textBefore k s i ++ (digits v ++ z .rest) → Beyond (least k i) (most k i) v
-          → o ≡ length (textBefore k s i) → Q (readSheet b p g d)
-      below k a h e out q =
-          go (head-read m (a .text ++ u) (e ∙ ap (λ l. l ++ u) (a .before) ∙ append-assoc (headText m) (a .text) u))
-        where
-          u : List ℕ
-          u = digits (numberAt k s i) ++ z .rest
-
-          l : o ≡ length (headText m) + length (a .text)
-          l = q ∙ ap length (a .before) ∙ length-append (headText m) (a .text)
-
-          go : HeadRead m (a .text ++ u) → Q (readSheet b p g d)
-          go (inl (y, n, t, j)) =
-              let wide = subst InRange n (head-in-range b y) .wide .0 in
-              let x = outside-read (body m) (good-body m) b (first b .at) (valuesIn s) (a .text) _ (z .rest)
-              (a .is-outside (z .shaped) wide h out) t (z .run) in
-              let place = first b .at + length (a .text) in
-              let x′ = subst (λ k. RefusedBy (body k) b (first b .at) place) (sym n) x in
-              under-lines y (omega (arith, l)) (x′ .0, omega (arith, l, x′ .1))
-          go (inr (y, j)) = in-lines y (omega (arith, l))
-
-      by-section : (k : Section) → let v = numberAt k s i in
-          i < length (numbersIn k s) → b ≡ textBefore k s i ++ (digits v ++ z .rest) → Beyond (least k i) (most k i) v
-          → o ≡ length (textBefore k s i) → Q (readSheet b p g d)
-      by-section line2 h e out q =
-          let (y, l) = outside-read head good-head b 0 (valuesOf m) (textBefore line2 s i) _ (z .rest)
-          (line-outside s i h out) e (z .run) in
-          in-lines y (omega arith)
-      by-section psfRows h e out q = below psfRows (in-psf s i) h e out q
-      by-section grayRows h e out q = below grayRows (in-gray s i) h e out q
-      by-section dotsRows h e out q = below dotsRows (in-dots s i) h e out q
-
-  -- ---- what the reader refuses is drawn
-  -- lines 1 and 2 that were read
-  lines-stand : first b .refusal ≡ 0 → let m = measured b in
-      (b ≡ headText m ++ drop (first b .at) b) × (first b .at ≡ length (headText m))
-  lines-stand z =
-      let (e, _) = read-text head good-head b 0 z in
-      let f : b ≡ headText m ++ t = e ∙ ap (λ k. k ++ t) (ap (textOf head) (sym (head-values b z)) ∙ head-text m) in
-      (f, ⊎-elim (λ r. r .3) (λ r. absurd (omega (arith, r .0))) (head-read m t f))
-    where
-      m : Measures
-      m = measured b
-
-      t : List ℕ
-      t = drop (first b .at) b
-
-  -- a value of the format outside its field, by its section
-  value-outside : {o : ℕ} (s : Sheet) → Shaped s → (t : List ℕ) (v : ℕ) (rest : List ℕ) → ValueOutside s t v
-      → b ≡ t ++ (digits v ++ rest) → NoDigit rest → o ≡ length t → Outside b o
-  value-outside s shaped t v rest (k, i, h, e, f, out) w nd q =
+  value-outside : {o : ℕ} → OutsideText sheetGrammar b o → Outside b o
+  value-outside x =
+      let m = x .measures in
+      let s = sheetOf m (x .values) in
+      let shaped = values-shaped m (x .values) (x .long) in
+      let v = x .value in
+      let n = sym (sheet-values m (x .values)) in
+      let (k, i, h, e, f, out) = outside-number s shaped (x .before) v
+      (subst (λ u. OutsideAt (partsOf sheetGrammar m) (valuesOf m ++ u) (x .before) v) n (x .outside)) in
       record {
         sheet = s;
         shaped = shaped;
         section = k;
         index = i;
-        rest = rest;
+        rest = x .rest;
         number = h;
-        text = w ∙ ap₂ (λ x y. x ++ (digits y ++ rest)) e f;
-        run = nd;
+        text = x .text ∙ ap₂ (λ t u. t ++ (digits u ++ x .rest)) e f;
+        run = x .run;
         outside = subst (Beyond (least k i) (most k i)) f out;
-        place = q ∙ ap length e;
+        place = x .place ∙ ap length e;
       }
 
-  eleven-outside : readSheet b p g d .refusal ≡ 11 → Outside b (readSheet b p g d .at)
-  unfolding headOf blank
-  eleven-outside =
-      by-cases {Q = λ (r : Read). r .refusal ≡ 11 → Outside b (r .at)} (record {
-        cut-head = λ z. lines;
-        no-room = λ z f y. absurd (omega arith);
-        cut-body = λ z f y. below z;
-        too-long = λ z f y l x. absurd (omega arith);
-        whole = λ z f y l x. absurd (omega arith);
-      })
-    where
-      lines : first b .refusal ≡ 11 → Outside b (first b .at)
-      lines y =
-          let (vs, l, _, _, x) = parse-agrees head good-head b 0 in
-          let w = x y in
-          let s = blank (measuresOf vs) in
-          let n = five vs (l ∙ numbers-head) in
-          let o = subst (λ k. OutsideAt head k (w .before) (w .value)) (sym n) (w .outside) in
-          value-outside s (blank-shaped (measuresOf vs)) (w .before) (w .value) (w .rest)
-          (outside-line s (w .before) (w .value) o) (w .stands) (w .run) (omega (arith, w .place))
+  -- 10 and 11 are never drawn at one place: where a number of a sheet stands, that sheet goes on
+  never-both : (o : ℕ) → Stops b o → Outside b o → ⊥
+  never-both o z x =
+      let before = textBefore (x .section) (x .sheet) (x .index) in
+      let v = numberAt (x .section) (x .sheet) (x .index) in
+      let (more, e) = number-in-text (x .sheet) (x .shaped) (x .section) (x .index) (x .number) in
+      let begun : Begins (before ++ digits v) =
+      record {
+        sheet = x .sheet;
+        shaped = x .shaped;
+        rest = more;
+        text = e ∙ sym (append-assoc before (digits v) more);
+      } in
+      stops-no-number beginnings b before v (x .rest) (x .text) (x .place) begun (stops-here z)
 
-      below : first b .refusal ≡ 0 → second b .refusal ≡ 11 → Outside b (second b .at)
-      below z y =
-          let m = measured b in
-          let (vs, l, _, _, x) = parse-agrees (body m) (good-body m) b (first b .at) in
-          let w = x y in
-          let s = sheetOf m vs in
-          let shaped = values-shaped m vs l in
-          let o = subst (λ k. OutsideAt (body m) k (w .before) (w .value)) (sym (sheet-values m vs)) (w .outside) in
-          let (e, q) = lines-stand z in
-          let u = digits (w .value) ++ w .rest in
-          value-outside s shaped (headText m ++ w .before) (w .value) (w .rest)
-          (outside-body s shaped (head-in-range b z .wide .0) (w .before) (w .value) o)
-          (e ∙ ap (λ k. headText m ++ k) (w .stands) ∙ sym (append-assoc (headText m) (w .before) u)) (w .run)
-          (omega (arith, w .place, q, length-append (headText m) (w .before)))
+  module _ (p g d : ℕ) where
+    -- ---- 12
+    short-room : {o : ℕ} → Short b p g d o → ShortText sheetGrammar (λ m. roomFor m p g d) b o
+    unfolding headFrom
+    short-room x =
+        record { measures = x .measures; rest = x .rest; text = x .text; lacks = x .lacks; place = x .place }
 
-  twelve-short : readSheet b p g d .refusal ≡ 12 → Short b p g d (readSheet b p g d .at)
-  unfolding headOf
-  twelve-short y =
-      let (z, e, f) = twelve-lacks b p g d y in
-      let (t, q) = lines-stand z in
-      record { measures = measured b; rest = drop (first b .at) b; text = t; lacks = f; place = e ∙ q }
+    room-short : {o : ℕ} → ShortText sheetGrammar (λ m. roomFor m p g d) b o → Short b p g d o
+    unfolding headFrom
+    room-short x =
+        record { measures = x .measures; rest = x .rest; text = x .text; lacks = x .lacks; place = x .place }
 
-  pub refused-drawn : (readSheet b p g d .refusal ≡ 0 → ⊥)
-      → Draws b p g d (readSheet b p g d .refusal) (readSheet b p g d .at)
-  refused-drawn z = go (read-draws b p g d)
-    where
-      go : let r = readSheet b p g d in
-          (r .refusal ≡ 0) ⊎ (r .refusal ≡ 10) ⊎ (r .refusal ≡ 11) ⊎ (r .refusal ≡ 12)
-          → Draws b p g d (r .refusal) (r .at)
-      go (inl e) = absurd (z e)
-      go (inr (inl e)) = inl (e, ten-stops b p g d e)
-      go (inr (inr (inl e))) = inr (inl (e, eleven-outside e))
-      go (inr (inr (inr e))) = inr (inr (e, twelve-short e))
+    -- ---- the reader by the grammar, and that of sheets
+    taken-decides : let t = sheetTaken b p g d in
+        Decides (Stops b) (Outside b) (Short b p g d) (t .refusal) (t .at)
+    taken-decides = record {
+      draws = λ z. go (by .draws z);
+      on-stops = λ o x. (
+        λ z.
+            let n = read-taken b p g d .0 ∙ z in
+            let s = readSheet b p g d .sheet in
+            let (e, v, _) = read-exactly b p g d s (n, refl) in
+            stops-no-text beginnings b (stops-here x) (s, v .shaped, e),
+        stops-right beginnings b (sheetTaken b p g d .at) (begun .0) (begun .1) (stops-here x),
+      );
+      on-outside = λ o x. by .on-outside o (outside-value x);
+      on-short = λ o x. by .on-short o (short-room x);
+      never-both = never-both;
+    }
+      where
+        room : Measures → Bool
+        room m = roomFor m p g d
 
-  -- ---- the theorem
-  -- whatever is drawn is drawn at the reader's place or to the right of it, and the reader refuses
-  drawn-right : {n o : ℕ} → Draws b p g d n o → readSheet b p g d .at ≤ o
-  drawn-right (inl (_, z)) = stops-right z
-  drawn-right (inr (inl (_, z))) = outside-right z .1
-  drawn-right (inr (inr (_, z))) = ⊎-elim (λ r. omega (arith, r .1)) (λ r. omega (arith, r .1)) (short-right z)
+        by : let t = sheetTaken b p g d in
+            Decides (StopsText sheetGrammar b) (OutsideText sheetGrammar b) (ShortText sheetGrammar room b) (t .refusal)
+            (t .at)
+        by = grammar-decides sheetGrammar formed room b
 
-  -- a sheet that is read draws nothing anywhere
-  pub read-draws-nothing : readSheet b p g d .refusal ≡ 0 → (n o : ℕ) → Draws b p g d n o → ⊥
-  read-draws-nothing y n o (inl (_, z)) = stops-unread z y
-  read-draws-nothing y n o (inr (inl (_, z))) =
-      ⊎-elim (λ e. omega arith) (λ e. omega arith) (outside-right z .0)
-  read-draws-nothing y n o (inr (inr (_, z))) =
-      ⊎-elim (λ e. omega (arith, e .0)) (λ e. omega (arith, e .0)) (short-right z)
+        begun : BeginsTo b (sheetTaken b p g d .at)
+        begun = reached-begins (reached sheetGrammar formed room b)
 
-  -- 12 comes first at the reader's place
-  room-first : Draws b p g d 12 (readSheet b p g d .at) → readSheet b p g d .refusal ≡ 12
-  room-first (inl (e, z)) = absurd (omega arith)
-  room-first (inr (inl (e, z))) = absurd (omega arith)
-  room-first (inr (inr (e, z))) = ⊎-elim (λ r. r .0) (λ r. absurd (omega (arith, r .1))) (short-right z)
+        stops : sheetTaken b p g d .refusal ≡ 10 → Stops b (sheetTaken b p g d .at)
+        stops z = record {
+          before = begun .1;
+          here =
+              ⊎-map (λ h. h) (λ h. (h .0, λ s shaped e. h .1 (s, shaped, e)))
+              (reader-stops beginnings b (readByGrammar sheetGrammar room) (λ r. r .refusal) (λ r. r .at)
+              (read-local sheetGrammar formed room) (sheet-never room) (begun .0) z);
+        }
 
-  pub refused-is-leftmost : (n o : ℕ) → (readSheet b p g d .refusal ≡ n) × (n ≡ 0 → ⊥) × (readSheet b p g d .at ≡ o)
-      → Leftmost b p g d n o
-  refused-is-leftmost n o (e, z, q) =
-      subst (λ n. Leftmost b p g d n o) e (subst (Leftmost b p g d (readSheet b p g d .refusal)) q (record {
-        drawn = refused-drawn (λ y. z (sym e ∙ y));
-        leftmost = λ n o. drawn-right;
-        twelve-first = room-first;
-      }))
+        go : let t = sheetTaken b p g d in
+            DrawsText sheetGrammar room b (t .refusal) (t .at) → Draws b p g d (t .refusal) (t .at)
+        go (inl (e, x)) = inl (e, stops e)
+        go (inr (inl (e, x))) = inr (inl (e, value-outside x))
+        go (inr (inr (e, x))) = inr (inr (e, room-short x))
 
-  pub leftmost-is-refused : (n o : ℕ) → Leftmost b p g d n o
-      → (readSheet b p g d .refusal ≡ n) × (n ≡ 0 → ⊥) × (readSheet b p g d .at ≡ o)
-  leftmost-is-refused n o l = go (ℕ-discrete (readSheet b p g d .refusal) 0)
-    where
-      some : Draws b p g d n o → n ≡ 0 → ⊥
-      some (inl (e, _)) y = omega arith
-      some (inr (inl (e, _))) y = omega arith
-      some (inr (inr (e, _))) y = omega arith
+    sheet-decides : let r = readSheet b p g d in
+        Decides (Stops b) (Outside b) (Short b p g d) (r .refusal) (r .at)
+    sheet-decides =
+        let (n, q, _) = read-taken b p g d in
+        subst (Decides (Stops b) (Outside b) (Short b p g d) (readSheet b p g d .refusal)) (sym q)
+        (subst (λ n. Decides (Stops b) (Outside b) (Short b p g d) n (sheetTaken b p g d .at)) (sym n) taken-decides)
 
-      -- two that are drawn at one place, both the leftmost
-      same : {k : ℕ} → Draws b p g d k o → (Draws b p g d 12 o → k ≡ 12) → Draws b p g d n o → k ≡ n
-      same (inr (inr (e, z))) r x = e ∙ sym (l .twelve-first (inr (inr (refl, z))))
-      same (inl (e, z)) r (inl (f, x)) = e ∙ sym f
-      same (inl (e, z)) r (inr (inl (f, x))) = absurd (never-both z x)
-      same (inl (e, z)) r (inr (inr (f, x))) = r (inr (inr (refl, x))) ∙ sym f
-      same (inr (inl (e, z))) r (inl (f, x)) = absurd (never-both x z)
-      same (inr (inl (e, z))) r (inr (inl (f, x))) = e ∙ sym f
-      same (inr (inl (e, z))) r (inr (inr (f, x))) = r (inr (inr (refl, x))) ∙ sym f
+    -- ---- what is promised
+    pub read-within : readSheet b p g d .at ≤ length b
+    read-within =
+        let (l, _) = reached-begins (reached sheetGrammar formed (λ m. roomFor m p g d) b) in
+        omega (arith, read-taken b p g d .1)
 
-      go : Dec (readSheet b p g d .refusal ≡ 0)
-          → (readSheet b p g d .refusal ≡ n) × (n ≡ 0 → ⊥) × (readSheet b p g d .at ≡ o)
-      go (yes y) = absurd (read-draws-nothing y n o (l .drawn))
-      go (no y) =
-          let w = refused-drawn y in
-          let q : readSheet b p g d .at ≡ o =
-          omega (arith, l .leftmost _ _ w, drawn-right (l .drawn)) in
-          let k = readSheet b p g d .refusal in
-          let r = subst (λ x. Draws b p g d 12 x → k ≡ 12) q room-first in
-          (same (subst (Draws b p g d k) q w) r (l .drawn), some (l .drawn), q)
+    pub read-draws-nothing : readSheet b p g d .refusal ≡ 0 → (n o : ℕ) → Draws b p g d n o → ⊥
+    read-draws-nothing = nothing-drawn sheet-decides
+
+    pub refused-is-leftmost : (n o : ℕ)
+        → (readSheet b p g d .refusal ≡ n) × (n ≡ 0 → ⊥) × (readSheet b p g d .at ≡ o)
+        → Leftmost (Draws b p g d) n o
+    refused-is-leftmost = decides-leftmost sheet-decides
+
+    pub leftmost-is-refused : (n o : ℕ) → Leftmost (Draws b p g d) n o
+        → (readSheet b p g d .refusal ≡ n) × (n ≡ 0 → ⊥) × (readSheet b p g d .at ≡ o)
+    leftmost-is-refused = leftmost-decides sheet-decides

@@ -37,9 +37,11 @@ pub mod Format
 pub mod Agrees
 pub mod Parse
 pub mod Unseen
+pub mod Grammar
+pub mod Deciding
+pub mod GrammarRefused
 pub mod Sheet
 pub mod Sections
-pub mod Refused
 pub mod Leftmost
 pub mod Program
 pub mod Printed
@@ -52,11 +54,18 @@ pub mod WrittenHead
 pub mod Tables
 pub mod Raster
 pub mod Pictures
-pub mod Verdicts
+pub mod PictureVerdicts
 pub mod PbmReading
 pub mod PgmReading
 pub mod PictureWriting
 pub mod PictureExamples
+-- Filed sheets
+pub mod FiledText
+pub mod FiledReading
+pub mod FiledVerdicts
+pub mod FiledCheck
+pub mod FiledPrinted
+pub mod FiledExamples
 -- the C interface
 pub mod Interface
 -- Examples

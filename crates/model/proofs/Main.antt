@@ -14,13 +14,17 @@ use Rattle.model.proofs.State.{fits-accepted, accepted-fits}
 use Rattle.model.proofs.Text.{digits-low, digits-more, number-low, number-high, yielded-number, leading-zero}
 use Rattle.model.proofs.Text.{nothing-yielded}
 use Rattle.model.proofs.Sheet.{read-exactly, read-back, same-text, written-whole, written-back}
-use Rattle.model.proofs.Refused.{read-within}
-use Rattle.model.proofs.Leftmost.{refused-is-leftmost, leftmost-is-refused, read-draws-nothing}
+use Rattle.model.proofs.Leftmost.{read-within, refused-is-leftmost, leftmost-is-refused, read-draws-nothing}
 use Rattle.model.proofs.Printed.{program-promises}
 use Rattle.model.proofs.PbmReading.{pbm-reading}
 use Rattle.model.proofs.PgmReading.{pgm-reading}
 use Rattle.model.proofs.PictureWriting.{pbm-written, pgm-written, counting}
 use Rattle.model.proofs.PictureExamples.{picture-examples}
+use Rattle.model.proofs.FiledText.{one-filing}
+use Rattle.model.proofs.FiledVerdicts.{verdicts-hold}
+use Rattle.model.proofs.FiledCheck.{checking, one-figure}
+use Rattle.model.proofs.FiledPrinted.{printed-checks}
+use Rattle.model.proofs.FiledExamples.{filed-examples}
 use Rattle.model.proofs.Interface.{start-over, call-over, toggle-is-told, swap-is-told, stored-read, run-over}
 use Rattle.model.proofs.Examples.{examples, one-sided}
 
@@ -70,7 +74,7 @@ promises =
         higher-digits-first = digits-more;
         number-is-yielded = number-low;
         above-256-is-257 = number-high;
-        yielded-is-a-number = yielded-number;
+        yielded-is-a-number = yielded-number 257;
         no-digit-after-0 = leading-zero;
         nothing-past-the-end = nothing-yielded;
       };
@@ -95,6 +99,15 @@ promises =
         pgm-writing-promises = pgm-written;
         counting-promises = counting;
         picture-examples-hold = picture-examples;
+      };
+      filed-promises = record {
+        check-promises = checking;
+        verdict-promises = λ bytes psf gray dots table s f c.
+            verdicts-hold s f (c .is-filed .is-valid) (c .is-filed .is-given) (c .sum-low) (c .sum-high);
+        one-text-one-filing = one-filing;
+        settle-prints-what-checks = printed-checks;
+        no-other-figure-checks = one-figure;
+        filed-examples-hold = filed-examples;
       };
       interface-promises = λ m psf gray. record {
         stored-stats-read-back = stored-read;

@@ -15,10 +15,12 @@ use lib.ListN.{length, drop, getD, length-append, length-drop}
 use lib.Seq.{getD-drop}
 use Rattle.model.specs.declared.Item.the-variants.{Number}
 use Rattle.model.specs.Basic.{pick}
-use Rattle.model.specs.Text.{isDigit, digits, capped, NoDigit, step, stepAt}
-use Rattle.model.specs.Format.{Part, fixed, number, textOf, isAt, place, fixedAt, field, fieldBy, fieldAt, parse}
-use Rattle.model.proofs.Text.{and-true, capped-inside, number-yielded}
-use Rattle.model.proofs.Format.{field-out, numbers, Inside, inside-length, OutsideAt, Good}
+use Rattle.model.specs.Text.{isDigit, digits, capTo, NoDigit, step, stepTo}
+use Rattle.model.specs.Format.{Part, fixed, number, textOf, isAt, place, fixedAt, field, fieldBy, limitOf}
+use Rattle.model.specs.Format.{fieldAt, parse}
+use Rattle.model.specs.Grammar.{numbers, OutsideAt}
+use Rattle.model.proofs.Text.{and-true, cap-inside, cap-low, number-yielded}
+use Rattle.model.proofs.Format.{below-limit, field-out, Inside, inside-length, Good}
 use Rattle.model.proofs.Agrees.{after}
 
 -- ---- one part
@@ -39,29 +41,35 @@ fixed-back (b ∷ bs) s at rest e =
     (fixed-back bs s (at + 1) rest (after s at (b ∷ []) (bs ++ rest) e) ∙ ap (place 0) (omega arith))
 
 -- the digits of a number of any size, and what ends it: it is read, or it is outside its field
-field-back : (lo hi end : ℕ) (s : List ℕ) (at v : ℕ) (rest : List ℕ) → hi ≤ 256 → isDigit end ≡ false
+field-back : (lo hi end : ℕ) (s : List ℕ) (at v : ℕ) (rest : List ℕ) → isDigit end ≡ false
     → drop at s ≡ digits v ++ (end ∷ rest)
     → fieldAt lo hi end s at ≡ pick (leb lo v && leb v hi) (field 0 (at + length (digits v) + 1) v) (field 11 at 0)
 unfolding fieldAt
-field-back lo hi end s at v rest k d e = go (leb lo v && leb v hi) refl
+field-back lo hi end s at v rest d e = go (leb lo v && leb v hi) refl
   where
     next : ℕ
     next = at + length (digits v)
 
-    read : stepAt s at ≡ step (Number (capped v)) at next
-    read = number-yielded s at v (end ∷ rest) e d
+    limit : ℕ
+    limit = limitOf hi
+
+    read : stepTo limit s at ≡ step (Number (capTo limit v)) at next
+    read = number-yielded limit s at v (end ∷ rest) e d
 
     stands : isAt end s next ≡ true
     stands = byte-back s next end rest (after s at (digits v) (end ∷ rest) e)
 
+    inside : leb lo (capTo limit v) && leb (capTo limit v) hi ≡ leb lo v && leb v hi
+    inside = cap-inside limit lo hi v (below-limit hi)
+
     go : (b : Bool) → leb lo v && leb v hi ≡ b
-        → fieldBy lo hi end s (stepAt s at .item) (stepAt s at .at) (stepAt s at .next)
+        → fieldBy lo hi end s (stepTo limit s at .item) (stepTo limit s at .at) (stepTo limit s at .next)
         ≡ pick b (field 0 (next + 1) v) (field 11 at 0)
     go true t =
         let h = leb-true v hi (and-true (leb lo v) (leb v hi) t .1) in
-        let c : capped v ≡ v = rw (lt-ltb v 257 (omega arith)) in
-        rw (read, capped-inside lo hi v k, t, stands, c)
-    go false t = rw (read, capped-inside lo hi v k, t)
+        let c : capTo limit v ≡ v = cap-low limit v (omega (arith, h, below-limit hi)) in
+        rw (read, inside, t, stands, c)
+    go false t = rw (read, inside, t)
 
 -- ---- parts
 -- the text of values is read as these values; or with refusal 11 within it, where one is outside its field
@@ -99,7 +107,7 @@ text-read (fixed bs ∷ ps) g s at vs rest n e =
 text-read (number lo hi end ∷ ps) g s at [] rest n e = absurd (omega arith)
 text-read (number lo hi end ∷ ps) g s at (v ∷ vs) rest n e =
     go (leb lo v && leb v hi) refl
-    (text-read ps (g .2) s (next + 1) vs rest (omega arith) (past-number end s at v (textOf ps vs ++ rest) t))
+    (text-read ps (g .1) s (next + 1) vs rest (omega arith) (past-number end s at v (textOf ps vs ++ rest) t))
   where
     next : ℕ
     next = at + length (digits v)
@@ -111,7 +119,7 @@ text-read (number lo hi end ∷ ps) g s at (v ∷ vs) rest n e =
     l = length-append (digits v) (end ∷ textOf ps vs)
 
     f : fieldAt lo hi end s at ≡ pick (leb lo v && leb v hi) (field 0 (next + 1) v) (field 11 at 0)
-    f = field-back lo hi end s at v (textOf ps vs ++ rest) (g .0) (g .1) t
+    f = field-back lo hi end s at v (textOf ps vs ++ rest) (g .0) t
 
     go : (b : Bool) → leb lo v && leb v hi ≡ b → ReadAs ps s (next + 1) vs rest
         → ReadAs (number lo hi end ∷ ps) s at (v ∷ vs) rest
@@ -140,11 +148,11 @@ outside-read (fixed bs ∷ ps) g s at vs before v rest (t, p, o) e nd =
     rw (fixed-back bs s at (t ++ u) q) (z, omega arith)
 outside-read (number lo hi end ∷ ps) g s at [] before v rest o e nd = absurd o
 outside-read (number lo hi end ∷ ps) g s at (w ∷ vs) before v rest (inl (p, q, b)) e nd =
-    rw (field-out lo hi end s at v rest (g .0) nd (e ∙ ap (λ (k : List ℕ). k ++ (digits v ++ rest)) p) b)
+    rw (field-out lo hi end s at v rest nd (e ∙ ap (λ (k : List ℕ). k ++ (digits v ++ rest)) p) b)
     (refl, omega arith)
 outside-read (number lo hi end ∷ ps) g s at (w ∷ vs) before v rest (inr (t, p, o)) e nd =
     go (leb lo w && leb w hi) refl
-    (outside-read ps (g .2) s (at + length (digits w) + 1) vs t v rest o (past-number end s at w (t ++ u) q) nd)
+    (outside-read ps (g .1) s (at + length (digits w) + 1) vs t v rest o (past-number end s at w (t ++ u) q) nd)
   where
     u : List ℕ
     u = digits v ++ rest
@@ -159,7 +167,7 @@ outside-read (number lo hi end ∷ ps) g s at (w ∷ vs) before v rest (inr (t, 
     next = at + length (digits w) + 1
 
     f : fieldAt lo hi end s at ≡ pick (leb lo w && leb w hi) (field 0 next w) (field 11 at 0)
-    f = field-back lo hi end s at w (t ++ u) (g .0) (g .1) q
+    f = field-back lo hi end s at w (t ++ u) (g .0) q
 
     go : (b : Bool) → leb lo w && leb w hi ≡ b → RefusedBy ps s next (next + length t)
         → RefusedBy (number lo hi end ∷ ps) s at (at + length before)

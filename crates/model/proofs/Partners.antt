@@ -2,13 +2,14 @@
 --   offsets-ordered  the offsets are those of document 01 in its order: one computed test of the whole lists
 --   entry-within     each is within reach
 --   lands-on         an offset that lands does so on a cell
+--   lands-within     which is within reach
 --   partners-cover   every other cell within reach is a partner
 use mathlib.Core.Bool.{Bool, true, false, true≢false, not, _&&_, _||_, and-eq-true-iff}
 use mathlib.Core.List.{List, [], _∷_, List·Memᴰ as In, List·Memᴰ·head as here, List·Memᴰ·tail as there}
 use mathlib.Core.Logic.{_⊎_, inl, inr}
 use mathlib.Core.Path.{_≡_, refl, sym, _∙_, ap, ap₂, subst}
 use Prim.Native.Nat.{ℕ, zero, suc, _+_, _*_, _-_, _/_, _%_, _≤_, _<_}
-use native.Mathlib.Nat.{not-suc-le-zero, le-of-suc-le-suc, div-add-mod'}
+use native.Mathlib.Nat.{not-suc-le-zero, le-of-suc-le-suc, le-trans, div-add-mod'}
 use native.Mathlib.Omega.{arith}
 use borrow.Author.Tests.{ltb-true, ltb-false, eqb-true, not-true, not-false, lt-ltb}
 use lib.Dec.{leb, ltb, eqb, leb·zero}
@@ -16,7 +17,7 @@ use lib.IntN.{ℤ, pos, negsuc, natAbs, _+ℤ_, _-ℤ_}
 use lib.ListN.{length, getD}
 use lib.Signed.{leZ, ltZ}
 use Rattle.algebra.proofs.Grid.{cell<, cell-row, cell-column, row<, column<}
-use Rattle.algebra.proofs.Order.{natAbs-show, read≡, show≡}
+use Rattle.algebra.proofs.Order.{natAbs-parts, natAbs-show, read≡, show≡}
 use Rattle.algebra.proofs.Solver.{ring!, reify}
 use Rattle.model.specs.Error.{cellAt}
 use Rattle.model.specs.Partners.{Offset, far, offsetAt, offsetsOf, offsetsFrom, offsets, inside, lands, partner}
@@ -222,6 +223,26 @@ lands-on width height m o h =
     let column : ℤ = partnerColumn width m o in
     let (down, along) = and-eq-true-iff (inside height row) (inside width column) .0 h in
     cell< (lands-inside height row down) (lands-inside width column along)
+
+-- along one direction, from a by d
+gap-by : (a limit : ℕ) (d z : ℤ) → pos a +ℤ d ≡ z → leZ (pos 0) z && ltZ z (pos limit) ≡ true
+    → gap a (natAbs z) ≤ natAbs d
+gap-by a limit d (pos n) e h =
+    omega (arith, natAbs-parts d, read≡ (pos a ∷ d ∷ pos n ∷ []) (search reify depth 40) e)
+gap-by a limit d (negsuc n) e h = absurd (true≢false (sym h))
+
+pub lands-within : (width height reach m : ℕ) (o : Offset) → Within reach o → lands width height m o ≡ true
+    → (let n = partner width m o in
+    (gap (m / width) (n / width) ≤ reach) × (gap (m % width) (n % width) ≤ reach))
+lands-within width height reach m o w h =
+    let row : ℤ = partnerRow width m o in
+    let column : ℤ = partnerColumn width m o in
+    let (down, along) = and-eq-true-iff (inside height row) (inside width column) .0 h in
+    let c : natAbs column < width = lands-inside width column along in
+    rw (cell-row {y = natAbs row} c, cell-column (natAbs row) c) (
+      le-trans (gap-by (m / width) height (o .down) row refl down) (w .rows),
+      le-trans (gap-by (m % width) width (o .right) column refl along) (w .columns),
+    )
 
 -- n is a partner of m
 pub record IsPartner (width height reach m n : ℕ) : Type 0 where

@@ -22,8 +22,8 @@ use Rattle.model.specs.PictureCalls.{wrongLayout, readPbmCall}
 use Rattle.model.specs.PicturePromises.{PbmReadingPromises}
 use Rattle.model.proofs.Text.{cap-low, cap-is}
 use Rattle.model.proofs.Header.{pbm-header-is-read, pbm-read-is-header}
-use Rattle.model.proofs.Verdicts.{Exclusive, Verdict, none, short, read, read-exactly, read-stored}
-use Rattle.model.proofs.Verdicts.{14-exactly, 12-exactly, drawn-only}
+use Rattle.model.proofs.PictureVerdicts.{Exclusive, PictureVerdict, none, short, read, read-exactly, read-stored}
+use Rattle.model.proofs.PictureVerdicts.{14-exactly, 12-exactly, drawn-only}
 use Rattle.model.proofs.Pictures.{LayoutFits, layout-by, layout-none}
 
 -- ---- the layout and the reader
@@ -121,7 +121,8 @@ module _ (file dots : List ℕ) where
       }
 
   abbrev Reads : Type 0
-  Reads = Verdict NoPbm ⊥ Is stored (readPbmCall file dots .reply) (readPbmCall file dots .left) dots (length dots)
+  Reads =
+      PictureVerdict NoPbm ⊥ Is stored (readPbmCall file dots .reply) (readPbmCall file dots .left) dots (length dots)
 
   pub pbm-verdict : Reads
   unfolding readPbmCall

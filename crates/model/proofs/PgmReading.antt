@@ -21,8 +21,9 @@ use Rattle.model.specs.PictureCalls.{wrongLayout, readPgmCall}
 use Rattle.model.specs.PicturePromises.{PgmReadingPromises}
 use Rattle.model.proofs.Text.{cap-low, cap-is}
 use Rattle.model.proofs.Header.{pgm-header-is-read, pgm-read-is-header}
-use Rattle.model.proofs.Verdicts.{Exclusive, Verdict, none, other, short, read, read-exactly, read-stored}
-use Rattle.model.proofs.Verdicts.{14-exactly, 15-exactly, 12-exactly, drawn-only}
+use Rattle.model.proofs.PictureVerdicts.{Exclusive, PictureVerdict, none, other, short, read, read-exactly}
+use Rattle.model.proofs.PictureVerdicts.{read-stored}
+use Rattle.model.proofs.PictureVerdicts.{14-exactly, 15-exactly, 12-exactly, drawn-only}
 use Rattle.model.proofs.Pictures.{LayoutFits, layout-by, layout-none}
 
 -- ---- the layout and the reader
@@ -126,7 +127,8 @@ module _ (file gray : List ℕ) where
 
   abbrev Reads : Type 0
   Reads =
-      Verdict NoPgm Other Is stored (readPgmCall file gray .reply) (readPgmCall file gray .left) gray (length gray)
+      PictureVerdict NoPgm Other Is stored (readPgmCall file gray .reply) (readPgmCall file gray .left) gray
+      (length gray)
 
   pub pgm-verdict : Reads
   unfolding readPgmCall

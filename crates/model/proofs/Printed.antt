@@ -1,6 +1,6 @@
 -- The promise of the program (specs/ProgramPromises.antt) holds (`program-promises`): texts of refusals are apart from
 -- each other and from every sheet; a sheet that was read draws 6 or nothing, and comes to rest; so what is printed is
--- what is due.
+-- what is due. Later calls accept what came to rest (`printed-sound`).
 use mathlib.Core.Path.{_≡_, refl, _∙_, ap, ap₂, sym, subst}
 use mathlib.Core.Bool.{Bool, true, false, _&&_}
 use mathlib.Core.List.{List, [], _∷_, _++_}
@@ -27,10 +27,10 @@ use Rattle.model.specs.Text.{bytes, digits}
 use Rattle.model.specs.Sheet.{Sheet, cellsOf, names, sheetText, Valid}
 use Rattle.model.specs.Format.{Read, readSheet}
 use Rattle.model.specs.SheetCalls.{writtenSheet}
-use Rattle.model.specs.Program.{refusedText, whole, statsText, processedText, handedDots, output}
+use Rattle.model.specs.Program.{refusedText, whole, statsText, processedText, handedDots, sheetTarget, output}
 use Rattle.model.specs.ProgramPromises.{IsSheet, StartRefuses, wrongSum}
 use Rattle.model.specs.ProgramPromises.{ProgramRefuses, tooLong, unread, unstarted}
-use Rattle.model.specs.ProgramPromises.{sheetTarget, firstDots, convergedFrom}
+use Rattle.model.specs.ProgramPromises.{firstDots, convergedFrom}
 use Rattle.model.specs.ProgramPromises.{Printed, Prints, Unrefused, ProgramPromises}
 use Rattle.model.proofs.Error.{squared-nonneg}
 use Rattle.model.proofs.Refusal.{first-passes, _nor_, within, alike-not, above-none}
@@ -302,6 +302,24 @@ module _ (input : List ℕ) where
       go : (b : Bool) → ltb 32768 (length input) ≡ b → Answer
       go true t = inl (13, 0, tooLong (ltb-true _ _ t))
       go false t = read (ltb-false _ _ t) (ℕ-discrete (r .refusal) 0)
+
+  -- where no refusal is due, later calls accept what comes to rest, and its E at the start is that of the first dots
+  pub printed-sound : Unrefused input → (s : Sheet) → IsSheet input s
+      → (let after = convergedFrom s .after in
+      Sound (s .measures) (s .psf) (s .gray) after
+      × (after .figures .«start_error» ≡ squaredError (sheetTarget s) (firstDots s)))
+  printed-sound none s given = started (start-judged s (given .is-valid))
+    where
+      short : (b : Bool) → ltb 32768 (length input) ≡ b → length input ≤ 32768
+      short true t = absurd (none 13 0 (tooLong (ltb-true _ _ t)))
+      short false t = ltb-false _ _ t
+
+      started : ((n : ℕ) × StartRefuses s n) ⊎ (drawn s (given .is-valid) ≡ 0)
+          → (let after = convergedFrom s .after in
+          Sound (s .measures) (s .psf) (s .gray) after
+          × (after .figures .«start_error» ≡ squaredError (sheetTarget s) (firstDots s)))
+      started (inl (n, d)) = absurd (none n 0 (unstarted (short (ltb 32768 (length input)) refl) given d))
+      started (inr e) = (after-sound s (given .is-valid) e, after-start s (given .is-valid) e)
 
   pub program-promises : ProgramPromises input
   program-promises = record {

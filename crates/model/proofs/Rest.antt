@@ -2,13 +2,14 @@
 -- dots and the other under blanks.
 --   rest-if      where no toggle and no swap within reach lowers E: the bounds follow
 --   rest-by      where nothing that the scans attempt lowers E
+--   rest-calm    at rest, nothing that the scans attempt lowers E
 --   rest-tested  where a test that can be computed says so
-use mathlib.Core.Bool.{Bool, true, false, true≢false, not, _&&_}
+use mathlib.Core.Bool.{Bool, true, false, true≢false, not, _&&_, and-eq-true-iff}
 use mathlib.Core.List.{List, [], _∷_, List·Memᴰ as In, List·Memᴰ·head as here, List·Memᴰ·tail as there}
-use mathlib.Core.Path.{_≡_, sym, _∙_, ap, ap₂, subst}
+use mathlib.Core.Path.{_≡_, refl, sym, _∙_, ap, ap₂, subst}
 use Prim.Native.Nat.{ℕ, _/_, _%_, _≤_, _<_}
 use native.Mathlib.Omega.{arith}
-use borrow.Author.Tests.{ne-eqb}
+use borrow.Author.Tests.{eqb-false, ne-eqb, not-true}
 use lib.Dec.{eqb}
 use lib.IntN.{ℤ, pos, negsuc, negℤ, _+ℤ_, _*ℤ_}
 use lib.Signed.{_≤ℤ_}
@@ -20,13 +21,13 @@ use Rattle.model.specs.Psf.{peak}
 use Rattle.model.specs.Error.{Target, cells, filteredError, filteredErrors, Halftone}
 use Rattle.model.specs.Refusal.{gap}
 use Rattle.model.specs.Change.{signOf, sign, toggleSum, Move, toggle, swap, lowers}
-use Rattle.model.specs.Partners.{Offset, offsets, partner}
+use Rattle.model.specs.Partners.{Offset, offsets, Within, lands, partner}
 use Rattle.model.specs.Scan.{toggles, suits, swapsBy, swaps}
 use Rattle.model.specs.Lists.{Rest}
 use Rattle.model.proofs.Basic.{pick-cases, getD-tabulate}
 use Rattle.model.proofs.State.{at-least, all-below}
 use Rattle.model.proofs.Change.{toggle-change}
-use Rattle.model.proofs.Partners.{IsPartner, partners-cover}
+use Rattle.model.proofs.Partners.{offsets-ordered, lands-on, lands-within, IsPartner, partners-cover}
 use Rattle.model.proofs.Scan.{Calm}
 
 -- what is known of all swaps with the partners, of one
@@ -116,6 +117,31 @@ module _ (t : Target) (reach : ℕ) (wide : 0 < t .width) (step : 0 < t .step) (
 
   pub rest-by : Rest t reach dots (filteredErrors t dots)
   rest-by = rest-if t reach step dots f toggle-calm swap-calm
+
+-- and the other way: at rest, nothing that they attempt does
+module _ (t : Target) (reach : ℕ) (near : reach ≤ 6) (dots : List ℕ) (r : Rest t reach dots (filteredErrors t dots))
+    (m : ℕ) (h : m < cells t) where
+  partner-calm : (o : Offset) → Within reach o → suits t dots m o ≡ true
+      → Calm t dots (swap dots m (partner (t .width) m o))
+  partner-calm o w e =
+      let n : ℕ = partner (t .width) m o in
+      let like : Bool = eqb (getD dots m 0) (getD dots n 0) in
+      let (on, other) = and-eq-true-iff (lands (t .width) (t .height) m o) (not like) .0 e in
+      let (rows, columns) = lands-within (t .width) (t .height) reach m o w on in
+      r .no-swap-lowers m n h (lands-on (t .width) (t .height) m o on) rows columns (eqb-false _ _ (not-true _ other))
+
+  partners-calm : (l : List Offset) → ((o : Offset) → In o l → Within reach o) → All (Calm t dots) (swapsBy t l dots m)
+  unfolding swapsBy
+  partners-calm [] w = tt
+  partners-calm (o ∷ l) w =
+      let others = partners-calm l (λ x i. w x (there i)) in
+      pick-cases (All (Calm t dots)) (suits t dots m o) (λ e. (partner-calm o (w o (here refl)) e, others))
+      (λ e. others)
+
+  pub rest-calm : All (Calm t dots) (toggles t dots m) × All (Calm t dots) (swaps t reach dots m)
+  unfolding toggles
+  rest-calm =
+      ((r .no-toggle-lowers m h, tt), partners-calm (offsets reach) (offsets-ordered reach near .within))
 
 -- ---- by a test that can be computed: of each toggle, and of each swap of unlike dots
 module _ (t : Target) (dots : List ℕ) where

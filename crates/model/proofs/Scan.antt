@@ -3,6 +3,7 @@
 --   sweep-keeps                   what each accepted change keeps, a scan by such a rule keeps
 --   sweep-counts, sweep-lowers    it counts its accepted changes, each of which lowers E
 --   sweep-still                   one that accepts nothing leaves the reference as it was; nothing attempted lowers E
+--   sweep-calm                    and where nothing attempted lowers E, it accepts nothing
 --   sound-kept, sweep-later       later calls accept what a scan leaves
 use mathlib.Core.Bool.{true, not, and-eq-true-iff, Bool, false}
 use mathlib.Core.List.{List, [], _∷_}
@@ -14,7 +15,7 @@ use native.Mathlib.Omega.{arith}
 use borrow.Author.Tests.{eqb-false, not-true}
 use lib.Dec.{eqb}
 use lib.IntN.{ℤ, pos, negsuc, natAbs, _+ℤ_, _-ℤ_}
-use lib.Signed.{_≤ℤ_, _<ℤ_}
+use lib.Signed.{_≤ℤ_, _<ℤ_, clashℤ}
 use lib.ListN.{getD}
 use Rattle.algebra.proofs.Solver.{reify}
 use Rattle.algebra.proofs.Order.{natAbs-parts, read≤, read<, show≤}
@@ -242,6 +243,18 @@ module _ (t : Target) where
             → (i : ℕ) → Dec (i ≡ m) → i < suc m → All (Calm (p .dots)) (rule (p .dots) i)
         last before here i (yes e) h = rw e here
         last before here i (no e) h = before i (omega arith)
+
+    -- and the other way: where nothing attempted lowers E, nothing is accepted
+    pub sweep-calm : (n : ℕ) → ((i : ℕ) → i < n → All (Calm (p .dots)) (rule (p .dots) i))
+        → sweepTo t rule p n .changes ≡ 0
+    sweep-calm n calm =
+        ap (λ s. s .changes)
+        (sweep-holds (λ s. s ≡ idle) rule p refl n (λ s m h e.
+        subst (λ s. Steps (λ s. s ≡ idle) s (rule (s .after .dots) m)) (sym e)
+        (all-map (λ v c lower. clashℤ lower c) (rule (p .dots) m) (calm m h))))
+      where
+        idle : Sweep
+        idle = record { after = p; changes = 0 }
 
 -- ---- over the measures of document 01
 module _ (m : Measures) (psf gray : List ℕ) where

@@ -1,12 +1,11 @@
 -- Where the numbers of a sheet stand: each in the text of its sheet, and those outside their fields among the values of
 -- the format.
---   number-in-text              a number of a sheet stands in its text after the text before it
---   line-outside, outside-line  in line 2: a number outside its field is such a value of the format, and back
---   outside-body                after line 2: such a value is a number outside its field
---   in-psf, in-gray, in-dots    and back, section by section
-use mathlib.Core.Path.{_≡_, refl, _∙_, ap, sym}
+--   number-in-text  a number of a sheet stands in its text after the text before it
+--   number-outside  a number outside its field is such a value of the grammar
+--   outside-number  and such a value is a number outside its field
+use mathlib.Core.Path.{_≡_, refl, _∙_, ap, ap₂, sym, subst}
 use mathlib.Core.Bool.{Bool, true, false}
-use mathlib.Core.Logic.{_⊎_, inl, inr}
+use mathlib.Core.Logic.{_⊎_, inl, inr, ⊎-elim}
 use mathlib.Core.List.{List, [], _∷_, _++_, append-assoc, append-nil}
 use Prim.Native.Nat.{ℕ, zero, suc, _+_, _*_, _≤_, _<_}
 use native.Mathlib.Omega.{arith}
@@ -19,12 +18,12 @@ use Rattle.model.specs.Sheet.{Sheet, sideOf, entriesOf, cellsOf, rows, e
 use Rattle.model.specs.Sheet.{dotsName, valuesOf, dotsText, sheetText, Shaped, headText}
 use Rattle.model.specs.SheetRefusal.{Section, line2, psfRows, grayRows, dotsRows, numbersIn, numberAt, perRow}
 use Rattle.model.specs.SheetRefusal.{least, most, linesAbove, textBefore}
-use Rattle.model.specs.Format.{Part, fixed, number, grid, block, head, psfBlock, grayBlock, dotsBlock, body}
-use Rattle.model.specs.Format.{textOf}
+use Rattle.model.specs.Format.{grid, block, head, psfBlock, grayBlock, dotsBlock, body}
+use Rattle.model.specs.Format.{headFrom, textOf}
+use Rattle.model.specs.Grammar.{numbers, Beyond, OutsideAt, partsOf}
 use Rattle.model.proofs.Rows.{rows-grid}
-use Rattle.model.proofs.Text.{Beyond}
-use Rattle.model.proofs.Format.{numbers, OutsideAt, numbers-grid}
-use Rattle.model.proofs.Sheet.{valuesIn, grid-text}
+use Rattle.model.proofs.Format.{outside-left, outside-right, outside-cases, numbers-grid}
+use Rattle.model.proofs.Sheet.{sheetGrammar, numbers-head, valuesIn, grid-text}
 
 -- ---- in the text of a sheet
 -- value i of a grid
@@ -83,55 +82,6 @@ module _ (s : Sheet) (shaped : Shaped s) where
       (u ++ t, e ∙ rw f (simp append-assoc))
 
 -- ---- outside their fields, among the values of the format
--- parts after parts
-outside-left : (a c : List Part) (vs us t : List ℕ) (v : ℕ) → OutsideAt a vs t v → OutsideAt (a ++ c) (vs ++ us) t v
-outside-left [] c vs us t v o = absurd o
-outside-left (fixed bs ∷ a) c vs us t v (t′, e, o) = (t′, e, outside-left a c vs us t′ v o)
-outside-left (number lo hi end ∷ a) c [] us t v o = absurd o
-outside-left (number lo hi end ∷ a) c (w ∷ vs) us t v (inl o) = inl o
-outside-left (number lo hi end ∷ a) c (w ∷ vs) us t v (inr (t′, e, o)) =
-    inr (t′, e, outside-left a c vs us t′ v o)
-
-outside-right : (a c : List Part) (vs us t : List ℕ) (v : ℕ) → length vs ≡ numbers a → OutsideAt c us t v
-    → OutsideAt (a ++ c) (vs ++ us) (textOf a vs ++ t) v
-outside-right [] c [] us t v l o = o
-outside-right [] c (w ∷ vs) us t v l o = absurd (omega arith)
-outside-right (fixed bs ∷ a) c vs us t v l o =
-    (textOf a vs ++ t, append-assoc bs (textOf a vs) t, outside-right a c vs us t v l o)
-outside-right (number lo hi end ∷ a) c [] us t v l o = absurd (omega arith)
-outside-right (number lo hi end ∷ a) c (w ∷ vs) us t v l o = inr (
-  textOf a vs ++ t,
-  append-assoc (digits w) (end ∷ textOf a vs) t,
-  outside-right a c vs us t v (omega arith) o,
-)
-
-outside-cases : (a c : List Part) (vs us t : List ℕ) (v : ℕ) → length vs ≡ numbers a
-    → OutsideAt (a ++ c) (vs ++ us) t v
-    → OutsideAt a vs t v ⊎ ((t′ : List ℕ) × (t ≡ textOf a vs ++ t′) × OutsideAt c us t′ v)
-outside-cases [] c [] us t v l o = inr (t, refl, o)
-outside-cases [] c (w ∷ vs) us t v l o = absurd (omega arith)
-outside-cases (fixed bs ∷ a) c vs us t v l (t′, e, o) = go (outside-cases a c vs us t′ v l o)
-  where
-    go : OutsideAt a vs t′ v ⊎ ((u : List ℕ) × (t′ ≡ textOf a vs ++ u) × OutsideAt c us u v)
-        → OutsideAt (fixed bs ∷ a) vs t v
-        ⊎ ((u : List ℕ) × (t ≡ textOf (fixed bs ∷ a) vs ++ u) × OutsideAt c us u v)
-    go (inl q) = inl (t′, e, q)
-    go (inr (u, f, q)) = inr (u, e ∙ ap (λ x. bs ++ x) f ∙ sym (append-assoc bs (textOf a vs) u), q)
-outside-cases (number lo hi end ∷ a) c [] us t v l o = absurd (omega arith)
-outside-cases (number lo hi end ∷ a) c (w ∷ vs) us t v l (inl o) = inl (inl o)
-outside-cases (number lo hi end ∷ a) c (w ∷ vs) us t v l (inr (t′, e, o)) =
-    go (outside-cases a c vs us t′ v (omega arith) o)
-  where
-    go : OutsideAt a vs t′ v ⊎ ((u : List ℕ) × (t′ ≡ textOf a vs ++ u) × OutsideAt c us u v)
-        → OutsideAt (number lo hi end ∷ a) (w ∷ vs) t v
-        ⊎ ((u : List ℕ) × (t ≡ textOf (number lo hi end ∷ a) (w ∷ vs) ++ u) × OutsideAt c us u v)
-    go (inl q) = inl (inr (t′, e, q))
-    go (inr (u, f, q)) = inr (
-      u,
-      e ∙ ap (λ x. digits w ++ (end ∷ x)) f ∙ sym (append-assoc (digits w) (end ∷ textOf a vs) u),
-      q,
-    )
-
 -- a grid
 grid-outside : (w hi k n : ℕ) (vs : List ℕ) → length vs ≡ n → (i : ℕ) → i < length vs → hi < getD vs i 0
     → OutsideAt (grid w hi k n) vs (gridText w k (take i vs)) (getD vs i 0)
@@ -161,14 +111,14 @@ ValueOutside s t v =
     × (v ≡ numberAt k s i)
     × Beyond (least k i) (most k i) v
 
-pub head-text : (m : Measures) → textOf head (valuesOf m) ≡ headText m
-unfolding head
+head-text : (m : Measures) → textOf head (valuesOf m) ≡ headText m
+unfolding headFrom
 head-text m = refl
 
 -- in line 2
-pub line-outside : (s : Sheet) (i : ℕ) → let v = getD (valuesOf (s .measures)) i 0 in
+line-outside : (s : Sheet) (i : ℕ) → let v = getD (valuesOf (s .measures)) i 0 in
     i < 5 → Beyond (least line2 i) (most line2 i) v → OutsideAt head (valuesOf (s .measures)) (textBefore line2 s i) v
-unfolding head
+unfolding headFrom
 line-outside s zero h o = (_, refl, inl (refl, refl, o))
 line-outside s (suc zero) h o = (_, refl, inr (_, refl, inl (refl, refl, o)))
 line-outside s (suc (suc zero)) h o = (_, refl, inr (_, refl, inr (_, refl, inl (refl, refl, o))))
@@ -178,8 +128,8 @@ line-outside s (suc (suc (suc (suc zero)))) h o =
     (_, refl, inr (_, refl, inr (_, refl, inr (_, refl, inr (_, refl, inl (refl, refl, o))))))
 line-outside s (suc (suc (suc (suc (suc i))))) h o = absurd (omega arith)
 
-pub outside-line : (s : Sheet) (t : List ℕ) (v : ℕ) → OutsideAt head (valuesOf (s .measures)) t v → ValueOutside s t v
-unfolding head
+outside-line : (s : Sheet) (t : List ℕ) (v : ℕ) → OutsideAt head (valuesOf (s .measures)) t v → ValueOutside s t v
+unfolding headFrom
 outside-line s t v (a, e, inl (p, q, o)) = (line2, 0, omega arith, cc, q, o)
 outside-line s t v (a, e, inr (b, f, inl (p, q, o))) = (line2, 1, omega arith, cc, q, o)
 outside-line s t v (a, e, inr (b, f, inr (c, g, inl (p, q, o)))) = (line2, 2, omega arith, cc, q, o)
@@ -194,7 +144,7 @@ above-0 (inl o) = absurd (omega arith)
 above-0 (inr o) = o
 
 -- after line 2
-module _ (s : Sheet) where
+module _ (s : Sheet) (shaped : Shaped s) where
   abbrev measures : Measures
   measures = s .measures
 
@@ -225,130 +175,130 @@ module _ (s : Sheet) where
   unfolding psfText grayText
   dots-before i = simp append-assoc
 
-  module _ (shaped : Shaped s) (wide : 1 ≤ s .measures .width) where
-    psf-text : textOf (psfBlock measures) (s .psf) ≡ psfText
-    unfolding psfText
-    psf-text =
-        ap (λ l. psfName ++ l)
-        (grid-text (sideOf measures) (sideOf measures) 255 (s .psf) (omega arith) (shaped .psf-length))
+  psf-text : textOf (psfBlock measures) (s .psf) ≡ psfText
+  unfolding psfText
+  psf-text =
+      ap (λ l. psfName ++ l)
+      (grid-text (sideOf measures) (sideOf measures) 255 (s .psf) (omega arith) (shaped .psf-length))
 
-    gray-text : textOf (grayBlock measures) (s .gray) ≡ grayText
-    unfolding grayText
-    gray-text =
-        ap (λ l. grayName ++ l)
-        (grid-text (measures .width) (measures .height) 255 (s .gray) wide (shaped .gray-length))
+  -- where there are dots
+  gray-text : 0 < length (s .dots) → textOf (grayBlock measures) (s .gray) ≡ grayText
+  unfolding grayText
+  gray-text n =
+      let (_, l) = dots-there s shaped n in
+      let wide = factor (measures .height) (measures .width) (rw l at n) in
+      ap (λ l. grayName ++ l)
+      (grid-text (measures .width) (measures .height) 255 (s .gray) wide (shaped .gray-length))
 
-    psf-numbers : length (s .psf) ≡ numbers (psfBlock measures)
-    psf-numbers = shaped .psf-length ∙ sym (numbers-grid (sideOf measures) 255 0 (entriesOf measures))
+  psf-numbers : length (s .psf) ≡ numbers (psfBlock measures)
+  psf-numbers = shaped .psf-length ∙ sym (numbers-grid (sideOf measures) 255 0 (entriesOf measures))
 
-    gray-numbers : length (s .gray) ≡ numbers (grayBlock measures)
-    gray-numbers = shaped .gray-length ∙ sym (numbers-grid (measures .width) 255 0 (cellsOf measures))
+  gray-numbers : length (s .gray) ≡ numbers (grayBlock measures)
+  gray-numbers = shaped .gray-length ∙ sym (numbers-grid (measures .width) 255 0 (cellsOf measures))
 
-    -- a number outside its field is such a value
-    psf-outside : (i : ℕ) → i < length (s .psf) → 255 < getD (s .psf) i 0
-        → OutsideAt (body measures) (valuesIn s) (psfBetween i) (getD (s .psf) i 0)
-    unfolding body
-    psf-outside i h o =
-        outside-left (psfBlock measures) (grayBlock measures ++ dotsBlock measures) (s .psf) (s .gray ++ s .dots) _ _
-        (_, refl, grid-outside (sideOf measures) 255 0 (entriesOf measures) (s .psf) (shaped .psf-length) i h o)
+  -- a number outside its field is such a value
+  psf-outside : (i : ℕ) → i < length (s .psf) → 255 < getD (s .psf) i 0
+      → OutsideAt (body measures) (valuesIn s) (psfBetween i) (getD (s .psf) i 0)
+  unfolding body
+  psf-outside i h o =
+      outside-left (psfBlock measures) (grayBlock measures ++ dotsBlock measures) (s .psf) (s .gray ++ s .dots) _ _
+      (_, refl, grid-outside (sideOf measures) 255 0 (entriesOf measures) (s .psf) (shaped .psf-length) i h o)
 
-    gray-outside : (i : ℕ) → i < length (s .gray) → 255 < getD (s .gray) i 0
-        → OutsideAt (body measures) (valuesIn s) (grayBetween i) (getD (s .gray) i 0)
-    unfolding body
-    gray-outside i h o =
-        rw (← psf-text)
-        (outside-right (psfBlock measures) (grayBlock measures ++ dotsBlock measures) (s .psf) (s .gray ++ s .dots) _ _
-        psf-numbers
-        (outside-left (grayBlock measures) (dotsBlock measures) (s .gray) (s .dots) _ _
-        (_, refl, grid-outside (measures .width) 255 0 (cellsOf measures) (s .gray) (shaped .gray-length) i h o)))
+  gray-outside : (i : ℕ) → i < length (s .gray) → 255 < getD (s .gray) i 0
+      → OutsideAt (body measures) (valuesIn s) (grayBetween i) (getD (s .gray) i 0)
+  unfolding body
+  gray-outside i h o =
+      rw (← psf-text)
+      (outside-right (psfBlock measures) (grayBlock measures ++ dotsBlock measures) (s .psf) (s .gray ++ s .dots) _ _
+      psf-numbers
+      (outside-left (grayBlock measures) (dotsBlock measures) (s .gray) (s .dots) _ _
+      (_, refl, grid-outside (measures .width) 255 0 (cellsOf measures) (s .gray) (shaped .gray-length) i h o)))
 
-    dots-outside : (i : ℕ) → i < length (s .dots) → 1 < getD (s .dots) i 0
-        → OutsideAt (body measures) (valuesIn s) (dotsBetween i) (getD (s .dots) i 0)
-    unfolding body
-    dots-outside i h o =
-        let (t, l) = dots-there s shaped (omega arith) in
-        let here : OutsideAt (dotsBlock measures) (s .dots)
-        (dotsName ++ gridText (measures .width) 0 (take i (s .dots))) (getD (s .dots) i 0) =
-        rw t (_, refl, grid-outside (measures .width) 1 0 (cellsOf measures) (s .dots) l i h o) in
-        rw (← psf-text, ← gray-text)
-        (outside-right (psfBlock measures) (grayBlock measures ++ dotsBlock measures) (s .psf) (s .gray ++ s .dots) _ _
-        psf-numbers
-        (outside-right (grayBlock measures) (dotsBlock measures) (s .gray) (s .dots) _ _ gray-numbers here))
+  dots-outside : (i : ℕ) → i < length (s .dots) → 1 < getD (s .dots) i 0
+      → OutsideAt (body measures) (valuesIn s) (dotsBetween i) (getD (s .dots) i 0)
+  unfolding body
+  dots-outside i h o =
+      let (t, l) = dots-there s shaped (omega arith) in
+      let here : OutsideAt (dotsBlock measures) (s .dots)
+      (dotsName ++ gridText (measures .width) 0 (take i (s .dots))) (getD (s .dots) i 0) =
+      rw t (_, refl, grid-outside (measures .width) 1 0 (cellsOf measures) (s .dots) l i h o) in
+      rw (← psf-text, ← gray-text (omega arith))
+      (outside-right (psfBlock measures) (grayBlock measures ++ dotsBlock measures) (s .psf) (s .gray ++ s .dots) _ _
+      psf-numbers
+      (outside-right (grayBlock measures) (dotsBlock measures) (s .gray) (s .dots) _ _ gray-numbers here))
 
-    -- and such a value is a number outside its field
-    pub outside-body : (t : List ℕ) (v : ℕ) → OutsideAt (body measures) (valuesIn s) t v
-        → ValueOutside s (headText measures ++ t) v
-    unfolding body
-    outside-body t v o =
-        first (outside-cases (psfBlock measures) (grayBlock measures ++ dotsBlock measures) (s .psf)
-        (s .gray ++ s .dots) t v psf-numbers o)
-      where
-        Found : Type 0
-        Found = ValueOutside s (headText measures ++ t) v
+  below : {t : List ℕ} (u : List ℕ) (v : ℕ) → t ≡ headText measures ++ u → OutsideAt (body measures) (valuesIn s) u v
+      → OutsideAt (head ++ body measures) (valuesOf measures ++ valuesIn s) t v
+  below u v e o =
+      subst (λ t. OutsideAt (head ++ body measures) (valuesOf measures ++ valuesIn s) t v)
+      (ap (λ l. l ++ u) (head-text measures) ∙ sym e)
+      (outside-right head (body measures) (valuesOf measures) (valuesIn s) u v (sym (numbers-head 0)) o)
 
-        under : {u : List ℕ} → t ≡ u → headText measures ++ t ≡ headText measures ++ u
-        under e = ap (λ l. headText measures ++ l) e
+  pub number-outside : (k : Section) (i : ℕ) → let v = numberAt k s i in
+      i < length (numbersIn k s) → Beyond (least k i) (most k i) v
+      → OutsideAt (partsOf sheetGrammar (s .measures)) (valuesOf (s .measures) ++ valuesIn s) (textBefore k s i) v
+  number-outside line2 i h o =
+      outside-left head (body measures) (valuesOf measures) (valuesIn s) _ _ (line-outside s i h o)
+  number-outside psfRows i h o = below (psfBetween i) _ (psf-before i) (psf-outside i h (above-0 o))
+  number-outside grayRows i h o = below (grayBetween i) _ (gray-before i) (gray-outside i h (above-0 o))
+  number-outside dotsRows i h o = below (dotsBetween i) _ (dots-before i) (dots-outside i h (above-0 o))
 
-        third : (u : List ℕ) → t ≡ psfText ++ (grayText ++ u) → OutsideAt (dotsBlock measures) (s .dots) u v → Found
-        third u e = go (eqb (measures .start) 2)
-          where
-            go : (b : Bool)
-                → OutsideAt (pick b (block dotsName (measures .width) (cellsOf measures) 1) []) (s .dots) u v → Found
-            go true (x, f, q) =
-                let (i, h, j, y, z) = outside-grid (measures .width) 1 0 (cellsOf measures) (s .dots) x v q in
-                let w = e ∙ ap (λ l. psfText ++ (grayText ++ l)) (f ∙ ap (λ l. dotsName ++ l) j) in
-                (dotsRows, i, h, under w ∙ sym (dots-before i), y, inr z)
-            go false q = absurd q
+  -- and such a value is a number outside its field
+  outside-body : (t : List ℕ) (v : ℕ) → OutsideAt (body measures) (valuesIn s) t v
+      → ValueOutside s (headText measures ++ t) v
+  unfolding body
+  outside-body t v o =
+      first (outside-cases (psfBlock measures) (grayBlock measures ++ dotsBlock measures) (s .psf)
+      (s .gray ++ s .dots) t v psf-numbers o)
+    where
+      Found : Type 0
+      Found = ValueOutside s (headText measures ++ t) v
 
-        second : (u : List ℕ) → t ≡ psfText ++ u
-            → OutsideAt (grayBlock measures) (s .gray) u v
-            ⊎ ((x : List ℕ)
-            × (u ≡ textOf (grayBlock measures) (s .gray) ++ x)
-            × OutsideAt (dotsBlock measures) (s .dots) x v)
-            → Found
-        second u e (inl (x, f, q)) =
-            let (i, h, j, y, z) = outside-grid (measures .width) 255 0 (cellsOf measures) (s .gray) x v q in
-            let w = e ∙ ap (λ l. psfText ++ l) (f ∙ ap (λ l. grayName ++ l) j) in
-            (grayRows, i, h, under w ∙ sym (gray-before i), y, inr z)
-        second u e (inr (x, f, q)) = third x (e ∙ ap (λ l. psfText ++ l) (f ∙ ap (λ l. l ++ x) gray-text)) q
+      under : {u : List ℕ} → t ≡ u → headText measures ++ t ≡ headText measures ++ u
+      under e = ap (λ l. headText measures ++ l) e
 
-        first : OutsideAt (psfBlock measures) (s .psf) t v
-            ⊎ ((x : List ℕ)
-            × (t ≡ textOf (psfBlock measures) (s .psf) ++ x)
-            × OutsideAt (grayBlock measures ++ dotsBlock measures) (s .gray ++ s .dots) x v)
-            → Found
-        first (inl (x, f, q)) =
-            let (i, h, j, y, z) = outside-grid (sideOf measures) 255 0 (entriesOf measures) (s .psf) x v q in
-            (psfRows, i, h, under (f ∙ ap (λ l. psfName ++ l) j) ∙ sym (psf-before i), y, inr z)
-        first (inr (x, f, q)) =
-            second x (f ∙ ap (λ l. l ++ x) psf-text)
-            (outside-cases (grayBlock measures) (dotsBlock measures) (s .gray) (s .dots) x v gray-numbers q)
+      third : (u : List ℕ) → t ≡ psfText ++ (textOf (grayBlock measures) (s .gray) ++ u)
+          → OutsideAt (dotsBlock measures) (s .dots) u v → Found
+      third u e = go (eqb (measures .start) 2)
+        where
+          go : (b : Bool)
+              → OutsideAt (pick b (block dotsName (measures .width) (cellsOf measures) 1) []) (s .dots) u v → Found
+          go true (x, f, q) =
+              let (i, h, j, y, z) = outside-grid (measures .width) 1 0 (cellsOf measures) (s .dots) x v q in
+              let r : u ≡ dotsName ++ gridText (measures .width) 0 (take i (s .dots)) = f ∙ ap (λ l. dotsName ++ l) j in
+              let w = e ∙ ap₂ (λ k l. psfText ++ (k ++ l)) (gray-text (omega arith)) r in
+              (dotsRows, i, h, under w ∙ sym (dots-before i), y, inr z)
+          go false q = absurd q
 
-  -- number i of a section, by the text between line 2 and it
-  pub record AfterLine2 (k : Section) (i : ℕ) : Type 0 where
-    pub text : List ℕ
-    pub before : textBefore k s i ≡ headText (s .measures) ++ text
-    pub is-outside : let v = numberAt k s i in
-        Shaped s → 1 ≤ s .measures .width → i < length (numbersIn k s) → Beyond (least k i) (most k i) v
-        → OutsideAt (body (s .measures)) (valuesIn s) text v
+      second : (u : List ℕ) → t ≡ psfText ++ u
+          → OutsideAt (grayBlock measures) (s .gray) u v
+          ⊎ ((x : List ℕ)
+          × (u ≡ textOf (grayBlock measures) (s .gray) ++ x)
+          × OutsideAt (dotsBlock measures) (s .dots) x v)
+          → Found
+      second u e (inl (x, f, q)) =
+          let (i, h, j, y, z) = outside-grid (measures .width) 255 0 (cellsOf measures) (s .gray) x v q in
+          let w = e ∙ ap (λ l. psfText ++ l) (f ∙ ap (λ l. grayName ++ l) j) in
+          (grayRows, i, h, under w ∙ sym (gray-before i), y, inr z)
+      second u e (inr (x, f, q)) = third x (e ∙ ap (λ l. psfText ++ l) f) q
 
-  pub in-psf : (i : ℕ) → AfterLine2 psfRows i
-  in-psf i = record {
-    text = psfBetween i;
-    before = psf-before i;
-    is-outside = λ shaped wide h o. psf-outside shaped wide i h (above-0 o);
-  }
+      first : OutsideAt (psfBlock measures) (s .psf) t v
+          ⊎ ((x : List ℕ)
+          × (t ≡ textOf (psfBlock measures) (s .psf) ++ x)
+          × OutsideAt (grayBlock measures ++ dotsBlock measures) (s .gray ++ s .dots) x v)
+          → Found
+      first (inl (x, f, q)) =
+          let (i, h, j, y, z) = outside-grid (sideOf measures) 255 0 (entriesOf measures) (s .psf) x v q in
+          (psfRows, i, h, under (f ∙ ap (λ l. psfName ++ l) j) ∙ sym (psf-before i), y, inr z)
+      first (inr (x, f, q)) =
+          second x (f ∙ ap (λ l. l ++ x) psf-text)
+          (outside-cases (grayBlock measures) (dotsBlock measures) (s .gray) (s .dots) x v gray-numbers q)
 
-  pub in-gray : (i : ℕ) → AfterLine2 grayRows i
-  in-gray i = record {
-    text = grayBetween i;
-    before = gray-before i;
-    is-outside = λ shaped wide h o. gray-outside shaped wide i h (above-0 o);
-  }
-
-  pub in-dots : (i : ℕ) → AfterLine2 dotsRows i
-  in-dots i = record {
-    text = dotsBetween i;
-    before = dots-before i;
-    is-outside = λ shaped wide h o. dots-outside shaped wide i h (above-0 o);
-  }
+  pub outside-number : (t : List ℕ) (v : ℕ)
+      → OutsideAt (partsOf sheetGrammar (s .measures)) (valuesOf (s .measures) ++ valuesIn s) t v → ValueOutside s t v
+  outside-number t v o =
+      ⊎-elim (outside-line s t v)
+      (λ r.
+      let (u, e, q) = r in
+      subst (λ t. ValueOutside s t v) (ap (λ l. l ++ u) (sym (head-text measures)) ∙ sym e) (outside-body u v q))
+      (outside-cases head (body measures) (valuesOf measures) (valuesIn s) t v (sym (numbers-head 0)) o)

@@ -1,38 +1,49 @@
 -- Laws of the sheet: its text, reading it and writing it.
 --   text-parts                   the text of a sheet is that of the parts of the format with its values
---   by-cases                     what holds of each answer that the reader can give holds of the one that it gives
+--   inside-append, inside-split  values in the fields of parts after parts
+--   body-inside, inside-body     the values of a valid sheet are in their fields, and values in their fields are one
+--   formed, read-taken           a sheet is read by its grammar
 --   read-exactly, read-back      read exactly when the bytes are its text, each number is in its field, and it fits
 --   same-text                    no two sheets have the same text
 --   written-whole, written-back  a written sheet is its whole text, and reads back
 use mathlib.Core.Path.{_≡_, refl, _∙_, ap, ap₂, sym, subst}
-use mathlib.Core.Bool.{Bool, true, false, true≢false}
-use mathlib.Core.List.{List, [], _∷_, _++_, append-assoc, append-nil}
-use Prim.Native.Nat.{ℕ, zero, suc, _+_, _*_, _≤_, _<_}
+use mathlib.Core.Bool.{Bool, true, false}
+use mathlib.Core.List.{List, [], _∷_, _++_, append-assoc}
+use Prim.Native.Nat.{ℕ, zero, suc, _+_, _*_, _≤_}
 use native.Mathlib.Nat.{le-refl, mul-le-mul}
 use native.Mathlib.Omega.{arith}
-use borrow.Author.Tests.{le-leb, leb-true, leb-false, ltb-false, eq-eqb, ne-eqb}
+use borrow.Author.Tests.{lt-leb, le-leb, leb-true, ltb-false, eq-eqb, ne-eqb}
 use lib.Dec.{leb, eqb}
-use lib.ListN.{length, getD, take, drop, length-append, length-drop, take-append-drop, drop-of-length-le}
+use lib.ListN.{length, getD, take, drop, length-append, length-drop, take-append-drop}
 use lib.Seq.{sets, length-take-le, take-at, drop-at, sets-eq}
 use Rattle.model.specs.declared.Measures.{Measures}
-use Rattle.model.specs.declared.Place.{Place}
 use Rattle.model.specs.Basic.{pick, AtMost}
 use Rattle.model.specs.Refusal.{Refusal, badSize, badRadius, badReach, badKind, badLength, badDot, writeRefusal}
 use Rattle.model.specs.Sheet.{Sheet, sideOf, entriesOf, cellsOf, dotsIn, row, rows, names, psfName, grayName}
 use Rattle.model.specs.Sheet.{dotsName, valuesOf, dotsText, sheetText, Shaped, InRange, Valid, roomFor}
 use Rattle.model.specs.Format.{Part, fixed, number, grid, block, head, psfBlock, grayBlock, dotsBlock, body}
-use Rattle.model.specs.Format.{textOf, Parsed, parse, measuresOf, headOf, sheetOf, Read, refusedAt, bodyEnd}
+use Rattle.model.specs.Format.{headFrom, headBy}
+use Rattle.model.specs.Format.{textOf, Parsed, headOf, sheetOf, bodyEnd}
 use Rattle.model.specs.Format.{readSheet}
 use Rattle.model.specs.Calls.{result, Outcome}
 use Rattle.model.specs.SheetCalls.{readCall, withGiven, writtenSheet, writeText, writeCall}
-use Rattle.model.proofs.Basic.{pick-cases, zero-cases, at-most-tail}
+use Rattle.model.specs.Grammar.{numbers, Grammar, partsOf, Taken, readByGrammar}
+use Rattle.model.proofs.Basic.{pick-cases, at-most-tail}
 use Rattle.model.proofs.Calls.{no-result, was-taken}
 use Rattle.model.proofs.Refusal.{none, size-inside, none-above, alike}
 use Rattle.model.proofs.Rows.{text-grid, rows-grid}
-use Rattle.model.proofs.Format.{numbers, Inside, inside-length, good-head, good-body, text-append, values-length}
+use Rattle.model.proofs.Format.{Inside, inside-length, good-head, good-body, text-append}
 use Rattle.model.proofs.Format.{numbers-grid, numbers-append}
 use Rattle.model.proofs.Agrees.{read-text}
-use Rattle.model.proofs.Parse.{ReadWhole, inside-read}
+use Rattle.model.proofs.Grammar.{Formed, first, measured, second, by-cases, first-values, taken-text, text-taken}
+
+-- ---- the grammar of sheets
+abbrev pub sheetGrammar : Grammar
+sheetGrammar = record { lines = head; below = body }
+
+pub numbers-head : (least : ℕ) → numbers (headFrom least) ≡ 5
+unfolding headFrom
+numbers-head least = refl
 
 -- ---- the text of a sheet is that of its parts
 -- what follows line 2
@@ -43,7 +54,7 @@ bodyText s =
     (grayName ++ (rows (m .width) (m .height) (s .gray) ++ dotsText s)))
 
 pub text-head : (s : Sheet) → sheetText s ≡ textOf head (valuesOf (s .measures)) ++ bodyText s
-unfolding sheetText head
+unfolding sheetText headFrom
 text-head s = sym (append-assoc names (row (valuesOf (s .measures))) (bodyText s))
 
 -- the values that follow line 2
@@ -61,7 +72,7 @@ module _ (w h hi : ℕ) (vs : List ℕ) (p : 1 ≤ w) (e : length vs ≡ h * w) 
       ∙ append-assoc name (textOf (grid w hi 0 (h * w)) vs) (textOf ps us)
       ∙ ap (λ l. name ++ (l ++ textOf ps us)) grid-text
 
-pub text-body : (s : Sheet) → Shaped s → 1 ≤ s .measures .width → bodyText s ≡ textOf (body (s .measures)) (valuesIn s)
+text-body : (s : Sheet) → Shaped s → 1 ≤ s .measures .width → bodyText s ≡ textOf (body (s .measures)) (valuesIn s)
 unfolding body
 text-body s h p =
     let gray = block-text (m .width) (m .height) 255 (s .gray) p (h .gray-length) grayName (dotsBlock m) (s .dots) in
@@ -79,8 +90,12 @@ text-body s h p =
     dots false t = rw t
 
 pub text-parts : (s : Sheet) → Shaped s → 1 ≤ s .measures .width
-    → sheetText s ≡ textOf head (valuesOf (s .measures)) ++ textOf (body (s .measures)) (valuesIn s)
-text-parts s h p = text-head s ∙ ap (λ l. textOf head (valuesOf (s .measures)) ++ l) (text-body s h p)
+    → sheetText s ≡ textOf (partsOf sheetGrammar (s .measures)) (valuesOf (s .measures) ++ valuesIn s)
+text-parts s h p =
+    let m = s .measures in
+    text-head s
+    ∙ ap (λ l. textOf head (valuesOf m) ++ l) (text-body s h p)
+    ∙ sym (text-append head (body m) (valuesOf m) (valuesIn s) (sym (numbers-head 0)))
 
 -- ---- as many values as the format asks for are those of a sheet
 numbers-body : (m : Measures) → numbers (body m) ≡ entriesOf m + (cellsOf m + dotsIn m)
@@ -118,43 +133,29 @@ values-in-length s h =
 
 -- ---- values inside their fields are a valid sheet
 -- those of line 2
-head-inside : (m : Measures) → InRange m → Inside head (valuesOf m)
-unfolding head
+pub head-inside : (m : Measures) → InRange m → Inside head (valuesOf m)
+unfolding headFrom
 head-inside m r = (
   r .wide .0,
   r .wide .1,
   (r .high .0, r .high .1, (omega arith, r .near, (omega arith, r .reached, (omega arith, r .kind, tt)))),
 )
 
-inside-head : (m : Measures) → Inside head (valuesOf m) → InRange m
-unfolding head
+pub inside-head : (m : Measures) → Inside head (valuesOf m) → InRange m
+unfolding headFrom
 inside-head m i =
     let (wide, wide′, (high, high′, (_, near, (_, reached, (_, kind, _))))) = i in
     record { wide = (wide, wide′); high = (high, high′); near = near; reached = reached; kind = kind }
 
--- values as many as line 2 has
-pub numbers-head : numbers head ≡ 5
-unfolding head
-numbers-head = refl
-
-pub five : (vs : List ℕ) → length vs ≡ 5 → valuesOf (measuresOf vs) ≡ vs
-five [] e = absurd (omega arith)
-five (v ∷ []) e = absurd (omega arith)
-five (v ∷ u ∷ []) e = absurd (omega arith)
-five (v ∷ u ∷ t ∷ []) e = absurd (omega arith)
-five (v ∷ u ∷ t ∷ r ∷ []) e = absurd (omega arith)
-five (v ∷ u ∷ t ∷ r ∷ q ∷ []) e = refl
-five (v ∷ u ∷ t ∷ r ∷ q ∷ p ∷ vs) e = absurd (omega arith)
-
 -- parts after parts
-inside-append : (a b : List Part) (vs us : List ℕ) → Inside a vs → Inside b us → Inside (a ++ b) (vs ++ us)
+pub inside-append : (a b : List Part) (vs us : List ℕ) → Inside a vs → Inside b us → Inside (a ++ b) (vs ++ us)
 inside-append [] b [] us i j = j
 inside-append [] b (v ∷ vs) us i j = absurd i
 inside-append (fixed bs ∷ a) b vs us i j = inside-append a b vs us i j
 inside-append (number lo hi end ∷ a) b [] us i j = absurd i
 inside-append (number lo hi end ∷ a) b (v ∷ vs) us i j = (i .0, i .1, inside-append a b vs us (i .2) j)
 
-inside-split : (a b : List Part) (vs : List ℕ) → Inside (a ++ b) vs
+pub inside-split : (a b : List Part) (vs : List ℕ) → Inside (a ++ b) vs
     → Inside a (take (numbers a) vs) × Inside b (drop (numbers a) vs)
 inside-split [] b vs i = (tt, i)
 inside-split (fixed bs ∷ a) b vs i = inside-split a b vs i
@@ -164,28 +165,28 @@ inside-split (number lo hi end ∷ a) b (v ∷ vs) i =
     ((i .0, i .1, j), k)
 
 -- a grid
-at-most-cons : (k x : ℕ) (l : List ℕ) → x ≤ k → AtMost k l → AtMost k (x ∷ l)
+pub at-most-cons : (k x : ℕ) (l : List ℕ) → x ≤ k → AtMost k l → AtMost k (x ∷ l)
 at-most-cons k x l h a = record { each = go }
   where
     go : (i : ℕ) → getD (x ∷ l) i 0 ≤ k
     go zero = h
     go (suc i) = a .each i
 
-grid-inside : (w hi i n : ℕ) (vs : List ℕ) → length vs ≡ n → AtMost hi vs → Inside (grid w hi i n) vs
+pub grid-inside : (w hi i n : ℕ) (vs : List ℕ) → length vs ≡ n → AtMost hi vs → Inside (grid w hi i n) vs
 grid-inside w hi i zero [] e a = tt
 grid-inside w hi i zero (v ∷ vs) e a = absurd (omega arith)
 grid-inside w hi i (suc n) [] e a = absurd (omega arith)
 grid-inside w hi i (suc n) (v ∷ vs) e a =
     (omega arith, a .each 0, grid-inside w hi (i + 1) n vs (omega arith) (at-most-tail a))
 
-inside-grid : (w hi i n : ℕ) (vs : List ℕ) → Inside (grid w hi i n) vs → AtMost hi vs
+pub inside-grid : (w hi i n : ℕ) (vs : List ℕ) → Inside (grid w hi i n) vs → AtMost hi vs
 inside-grid w hi i zero [] j = record { each = λ k. omega arith }
 inside-grid w hi i zero (v ∷ vs) j = absurd j
 inside-grid w hi i (suc n) [] j = absurd j
 inside-grid w hi i (suc n) (v ∷ vs) j = at-most-cons hi v vs (j .1) (inside-grid w hi (i + 1) n vs (j .2))
 
 -- what follows line 2
-body-inside : (s : Sheet) → Valid s → Inside (body (s .measures)) (valuesIn s)
+pub body-inside : (s : Sheet) → Valid s → Inside (body (s .measures)) (valuesIn s)
 unfolding body
 body-inside s v =
     inside-append (psfBlock m) (grayBlock m ++ dotsBlock m) (s .psf) (s .gray ++ s .dots)
@@ -202,7 +203,7 @@ body-inside s v =
     dots true e = grid-inside (m .width) 1 0 (cellsOf m) (s .dots) e (v .dots-most)
     dots false e = grid-inside (m .width) 1 0 0 (s .dots) e (v .dots-most)
 
-inside-body : (m : Measures) (vs : List ℕ) → InRange m → Inside (body m) vs → Valid (sheetOf m vs)
+pub inside-body : (m : Measures) (vs : List ℕ) → InRange m → Inside (body m) vs → Valid (sheetOf m vs)
 unfolding body
 inside-body m vs r i =
     let (p, after) = inside-split (psfBlock m) (grayBlock m ++ dotsBlock m) vs i in
@@ -231,7 +232,7 @@ sheet-values m vs =
     ap (λ l. take (entriesOf m) vs ++ l) (take-append-drop (cellsOf m) (drop (entriesOf m) vs))
     ∙ take-append-drop (entriesOf m) vs
 
-values-sheet : (s : Sheet) → Shaped s → sheetOf (s .measures) (valuesIn s) ≡ s
+pub values-sheet : (s : Sheet) → Shaped s → sheetOf (s .measures) (valuesIn s) ≡ s
 values-sheet s h =
     rw (
       take-at (s .psf) (s .gray ++ s .dots) (entriesOf (s .measures)) (h .psf-length),
@@ -241,134 +242,82 @@ values-sheet s h =
     )
 
 -- ---- reading
--- lines 1 and 2, and what follows them
-abbrev pub first : List ℕ → Parsed
-first b = parse head b 0
+-- by the grammar of sheets
+pub formed : Formed sheetGrammar
+formed = record { lines-good = good-head 0; below-good = good-body; lines-five = numbers-head 0 }
 
-abbrev pub measured : List ℕ → Measures
-measured b = measuresOf (first b .values)
-
-abbrev pub second : List ℕ → Parsed
-second b = parse (body (measured b)) b (first b .at)
-
--- what is refused in lines 1 and 2, and what lacks room after them
 module _ (b : List ℕ) (p g d : ℕ) where
-  pub lines-refused : (first b .refusal ≡ 0 → ⊥)
-      → readSheet b p g d ≡ refusedAt (measured b) (first b .refusal) (first b .at)
-  unfolding readSheet headOf
-  lines-refused z = rw (ne-eqb (first b .refusal) 0 z)
+  abbrev pub sheetTaken : Taken
+  sheetTaken = readByGrammar sheetGrammar (λ m. roomFor m p g d) b
 
-  pub room-refused : first b .refusal ≡ 0 → roomFor (measured b) p g d ≡ false
-      → readSheet b p g d ≡ refusedAt (measured b) 12 (first b .at)
-  unfolding readSheet headOf
-  room-refused z f = rw (eq-eqb (first b .refusal) 0 z, f)
+  pub read-taken : let r = readSheet b p g d in
+      (r .refusal ≡ sheetTaken .refusal)
+      × (r .at ≡ sheetTaken .at)
+      × (r .refusal ≡ 0 → r .sheet ≡ sheetOf (sheetTaken .measures) (sheetTaken .values))
+  unfolding readSheet headBy bodyEnd
+  read-taken =
+      by-cases {g = sheetGrammar} {room = λ m. roomFor m p g d} {b = b} {Q = Q} (record {
+        cut-lines = λ z. rw (ne-eqb (one .refusal) 0 z) (refl, refl, λ y. absurd (z y));
+        no-room = λ z f. rw (eq-eqb (one .refusal) 0 z, f) (omega arith, refl, λ y. absurd (omega arith));
+        cut-below = λ z f y.
+            rw (eq-eqb (one .refusal) 0 z, f, ne-eqb (two .refusal) 0 y, ne-eqb (two .refusal) 0 y)
+            (refl, refl, λ x. absurd (y x));
+        too-long = λ z f y l.
+            rw (eq-eqb (one .refusal) 0 z, f, eq-eqb (two .refusal) 0 y, lt-leb (length b) (two .at) l)
+            (refl, refl, λ x. absurd (omega arith));
+        whole = λ z f y l.
+            rw (
+              eq-eqb (one .refusal) 0 z,
+              f,
+              eq-eqb (two .refusal) 0 y,
+              le-leb (length b) (two .at) l,
+              eq-eqb (two .refusal) 0 y,
+            ) (sym y, refl, λ x. refl);
+      })
+    where
+      one : Parsed
+      one = first sheetGrammar b
 
--- the answers that the reader can give, by what was read; what holds of each of them holds of the one that it gives
-pub record Cases (b : List ℕ) (p g d : ℕ) (Q : Read → Type 0) : Type 0 where
-  pub cut-head : (first b .refusal ≡ 0 → ⊥) → Q (refusedAt (measured b) (first b .refusal) (first b .at))
-  pub no-room : first b .refusal ≡ 0 → roomFor (measured b) p g d ≡ false → Q (refusedAt (measured b) 12 (first b .at))
-  pub cut-body : first b .refusal ≡ 0 → roomFor (measured b) p g d ≡ true → (second b .refusal ≡ 0 → ⊥)
-      → Q (refusedAt (measured b) (second b .refusal) (second b .at))
-  pub too-long : first b .refusal ≡ 0 → roomFor (measured b) p g d ≡ true → second b .refusal ≡ 0
-      → second b .at < length b → Q (refusedAt (measured b) 10 (second b .at))
-  pub whole : first b .refusal ≡ 0 → roomFor (measured b) p g d ≡ true → second b .refusal ≡ 0
-      → length b ≤ second b .at
-      → Q (record { refusal = 0; at = second b .at; sheet = sheetOf (measured b) (second b .values) })
+      two : Parsed
+      two = second sheetGrammar b
 
-pub by-cases : {b : List ℕ} {p g d : ℕ} {Q : Read → Type 0} → Cases b p g d Q → Q (readSheet b p g d)
-unfolding readSheet headOf bodyEnd
-by-cases {b} {p} {g} {d} {Q} c =
-    zero-cases Q (first b .refusal) (λ z. pick-cases Q (roomFor (measured b) p g d) (λ f.
-    zero-cases End (second b .refusal) (λ y. pick-cases End (leb (length b) (second b .at))
-    (λ l. rw (eq-eqb (second b .refusal) 0 y) (c .whole z f y (leb-true (length b) (second b .at) l)))
-    (λ l. c .too-long z f y (leb-false (length b) (second b .at) l)))
-    (λ y. rw (ne-eqb (second b .refusal) 0 y) (c .cut-body z f y))) (c .no-room z)) (c .cut-head)
-  where
-    -- by the place where what follows line 2 ends
-    End : Place → Type 0
-    End e =
-        let sheet = sheetOf (measured b) (second b .values) in
-        Q (pick (eqb (e .refusal) 0) (record { refusal = 0; at = e .at; sheet = sheet })
-        (refusedAt (measured b) (e .refusal) (e .at)))
+      Q : Taken → Type 0
+      Q t =
+          let r = readSheet b p g d in
+          (r .refusal ≡ t .refusal)
+          × (r .at ≡ t .at)
+          × (r .refusal ≡ 0 → r .sheet ≡ sheetOf (t .measures) (t .values))
 
--- the measures that were read are those of line 2, in their fields
-module _ (b : List ℕ) where
-  pub head-values : first b .refusal ≡ 0 → valuesOf (measured b) ≡ first b .values
-  head-values z = five (first b .values) (values-length head b 0 z ∙ numbers-head)
-
-  pub head-in-range : headOf b .refusal ≡ 0 → InRange (headOf b .measures)
-  unfolding headOf
-  head-in-range z =
-      inside-head (measured b) (subst (Inside head) (sym (head-values z)) (read-text head good-head b 0 z .1))
+-- the measures that were read are in their fields
+pub head-in-range : (b : List ℕ) → headOf b .refusal ≡ 0 → InRange (headOf b .measures)
+unfolding headBy
+head-in-range b z =
+    inside-head (measured sheetGrammar b)
+    (subst (Inside head) (sym (first-values sheetGrammar formed b z)) (read-text head (good-head 0) b 0 z .1))
 
 -- what was read is a valid sheet, and its text is what was read
-abbrev Whole : List ℕ → (psf gray dots : ℕ) → Sheet → Type 0
-Whole b p g d s = (b ≡ sheetText s) × Valid s × (roomFor (s .measures) p g d ≡ true)
-
-read-whole : (b : List ℕ) (p g d : ℕ) → let r = readSheet b p g d in r .refusal ≡ 0 → Whole b p g d (r .sheet)
-unfolding headOf
-read-whole b p g d =
-    by-cases {Q = λ (r : Read). r .refusal ≡ 0 → Whole b p g d (r .sheet)} (record {
-      cut-head = λ z y. absurd (z y);
-      no-room = λ z f y. absurd (omega arith);
-      cut-body = λ z f y x. absurd (y x);
-      too-long = λ z f y l x. absurd (omega arith);
-      whole = λ z f y l x. parts z f y l;
-    })
-  where
-    m : Measures
-    m = measured b
-
-    vs : List ℕ
-    vs = second b .values
-
-    parts : first b .refusal ≡ 0 → roomFor m p g d ≡ true → second b .refusal ≡ 0 → length b ≤ second b .at
-        → Whole b p g d (sheetOf m vs)
-    parts z f y l =
-        let (t, _) = read-text head good-head b 0 z in
-        let (u, i) = read-text (body m) (good-body m) b (first b .at) y in
-        let v = inside-body m vs (head-in-range b z) i in
-        let w : drop (first b .at) b ≡ textOf (body m) (valuesIn (sheetOf m vs)) =
-        u
-        ∙ ap (λ l. textOf (body m) vs ++ l) (drop-of-length-le b l)
-        ∙ append-nil (textOf (body m) vs)
-        ∙ ap (textOf (body m)) (sym (sheet-values m vs)) in (
-          t
-              ∙ ap₂ (λ k l. textOf head k ++ l) (sym (head-values b z)) w
-              ∙ sym (text-parts (sheetOf m vs) (v .shaped) (v .in-range .wide .0)),
-          v,
-          f,
-        )
-
 pub read-exactly : (b : List ℕ) (p g d : ℕ) (s : Sheet) → let r = readSheet b p g d in
     (r .refusal ≡ 0) × (r .sheet ≡ s) → (b ≡ sheetText s) × Valid s × (roomFor (s .measures) p g d ≡ true)
-read-exactly b p g d s (z, e) = subst (Whole b p g d) e (read-whole b p g d z)
-
--- where nothing is left is no byte
-pub none-left : (b : List ℕ) (at : ℕ) → drop at b ≡ [] → at < length b → ⊥
-none-left b at e l = omega (arith, ap length e, length-drop at b)
+read-exactly b p g d s (z, q) =
+    let (n, _, h) = read-taken b p g d in
+    let t = sheetTaken b p g d in
+    let m = t .measures in
+    let vs = t .values in
+    let (e, i, j, f) = taken-text sheetGrammar formed (λ m. roomFor m p g d) b (sym n ∙ z) in
+    let v = inside-body m vs (inside-head m i) j in
+    let w = ap (λ l. textOf (partsOf sheetGrammar m) (valuesOf m ++ l)) (sym (sheet-values m vs)) in
+    subst (λ s. (b ≡ sheetText s) × Valid s × (roomFor (s .measures) p g d ≡ true)) (sym (h z) ∙ q)
+    (e ∙ w ∙ sym (text-parts (sheetOf m vs) (v .shaped) (v .in-range .wide .0)), v, f)
 
 -- the text of a valid sheet is read as this sheet
 pub read-back : (b : List ℕ) (p g d : ℕ) (s : Sheet) → b ≡ sheetText s → Valid s → roomFor (s .measures) p g d ≡ true
     → let r = readSheet b p g d in (r .refusal ≡ 0) × (r .sheet ≡ s)
 read-back b p g d s e v f =
-    let at = first b .at in
-    let text = textOf (body m) (valuesIn s) in
-    let (z, k, x, _) = inside-read head good-head b 0 (valuesOf m) text (head-inside m (v .in-range))
-    (e ∙ text-parts s (v .shaped) (v .in-range .wide .0)) in
-    let n : m ≡ measured b = sym (ap measuresOf k) in
-    let (y, l, w, _) = subst (λ k. ReadWhole (body k) b at (valuesIn s) []) n
-    (inside-read (body m) (good-body m) b at (valuesIn s) [] (body-inside s v) (x ∙ sym (append-nil text))) in
-    by-cases {Q = λ (r : Read). (r .refusal ≡ 0) × (r .sheet ≡ s)} (record {
-      cut-head = λ c. absurd (c z);
-      no-room = λ _ h. absurd (true≢false (sym (subst (λ k. roomFor k p g d ≡ true) n f) ∙ h));
-      cut-body = λ _ _ c. absurd (c y);
-      too-long = λ _ _ _ h. absurd (none-left b (second b .at) w h);
-      whole = λ _ _ _ _. (refl, ap₂ sheetOf (sym n) l ∙ values-sheet s (v .shaped));
-    })
-  where
-    m : Measures
-    m = s .measures
+    let m = s .measures in
+    let (n, _, h) = read-taken b p g d in
+    let (z, x, y) = text-taken sheetGrammar formed (λ m. roomFor m p g d) b m (valuesIn s)
+    (e ∙ text-parts s (v .shaped) (v .in-range .wide .0)) (head-inside m (v .in-range)) (body-inside s v) f in
+    (n ∙ z, h (n ∙ z) ∙ ap₂ sheetOf x y ∙ values-sheet s (v .shaped))
 
 -- no two sheets have the same text: each is read from it, where the buffers are long enough for any sheet
 module _ (m : Measures) (r : InRange m) where

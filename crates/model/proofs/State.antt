@@ -2,6 +2,7 @@
 --   dots-counted                       the dot total is the number of dot bytes that are 1
 --   below, at-least, equal, all-below  what the tests of 20 and 21 say
 --   state-accepted, state-known        none of their conditions holds exactly where the state fits
+--   ledger-exactly                     21 is not drawn exactly where the ledger fits dots with their table
 --   total-known                        the dot total of a ledger that 21 does not refuse
 --   fresh-fits                         dots with their table and a fresh ledger fit
 --   fits-accepted, accepted-fits       so they are drawn exactly where it does not fit
@@ -21,13 +22,14 @@ use lib.ListN.{length, getD}
 use Rattle.algebra.proofs.Solver.{reify}
 use Rattle.algebra.proofs.Order.{ordℤ, show≡}
 use Rattle.model.specs.declared.Stats.{Stats}
-use Rattle.model.specs.Basic.{AtMost, someBelow}
+use Rattle.model.specs.Basic.{Exactly, AtMost, someBelow}
 use Rattle.model.specs.Psf.{total}
 use Rattle.model.specs.Error.{Target, cells, filteredError, filteredErrors, squaredError, mostSquared}
 use Rattle.model.specs.Ledger.{dotTotal, ledgerDots, unequal, some, faults, wrongStats, freshStats}
 use Rattle.model.specs.State.{badTable, badStats, StateFits}
 use Rattle.model.specs.Refusal.{firstOf}
 use Rattle.model.proofs.Basic.{at-most-tail, getD-tabulate, tabulate-by}
+use Rattle.model.proofs.Error.{filtered-long}
 use Rattle.model.proofs.Refusal.{None, neither, _nor_, none, drawn-none}
 
 -- ---- the dot total
@@ -99,14 +101,20 @@ clear [] h = tt
 clear (b ∷ l) h = let (first, others) = neither b (some l) h in (first, clear l others)
 
 module _ (t : Target) (dots : List ℕ) where
+  -- 20 is not drawn of T
+  table-accepted : (table : List ℤ) → table ≡ filteredErrors t dots
+      → someBelow (cells t) (λ m. unequal (getD table m (pos 0)) (filteredError t dots m)) ≡ false
+  unfolding filteredErrors
+  table-accepted table e =
+      none-below (cells t) _ (λ i h.
+      same (ap (λ l. getD l i (pos 0)) e ∙ getD-tabulate (cells t) (filteredError t dots) i (pos 0) h))
+
   -- neither 20 nor 21 is drawn
   pub state-accepted : (table : List ℤ) (s : Stats) → StateFits t dots table s
       → None (badTable t dots table ∷ badStats t dots s ∷ [])
   unfolding badTable wrongStats filteredErrors
   state-accepted table s f = (
-    none-below (cells t) _ (λ i h.
-        same (ap (λ l. getD l i (pos 0)) (f .table-is)
-        ∙ getD-tabulate (cells t) (filteredError t dots) i (pos 0) h)),
+    table-accepted table (f .table-is),
     (
       same (f .error-is)
           nor (not-below _ _ (f .start-low) nor not-below _ _ (f .start-high) nor refl)
@@ -153,6 +161,17 @@ module _ (t : Target) (dots : List ℕ) where
       let (_, (_, (_, (_, (total, _)))))
       = clear (faults (cells t) (t .step) (squaredError t dots) (dotTotal dots) s) drawn in
       equal _ _ total
+
+  -- a ledger that 21 does not refuse fits dots with their table, and no other does
+  pub ledger-exactly : (s : Stats)
+      → Exactly (firstOf (badStats t dots s ∷ []) ≡ 0) (StateFits t dots (filteredErrors t dots) s)
+  unfolding badTable wrongStats
+  ledger-exactly s = (
+    λ e.
+        state-known _ s (filtered-long t dots)
+        (table-accepted _ refl, none (badStats t dots s ∷ []) tt refl e),
+    λ f. drawn-none (badStats t dots s ∷ []) (state-accepted _ s f .1),
+  )
 
   -- of dots with their table and a fresh ledger
   pub fresh-fits : AtMost 1 dots → length dots ≡ cells t

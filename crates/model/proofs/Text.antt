@@ -7,7 +7,7 @@
 --   yielded-number                        where a number is yielded stands the whole run of its digits
 use mathlib.Core.Path.{_≡_, refl, _∙_, ap, sym}
 use mathlib.Core.Bool.{Bool, true, false, true≢false, _&&_, and-eq-true-iff, and-false}
-use mathlib.Core.Logic.{_⊎_, inl, inr}
+use mathlib.Core.Logic.{inl, inr}
 use mathlib.Core.List.{List, [], _∷_, _++_, append-assoc}
 use Prim.Native.Nat.{ℕ, zero, suc, _+_, _-_, _*_, _/_, _%_, _^_, _≤_, _<_}
 use native.Mathlib.Nat.{add-assoc, le-refl, pow-suc}
@@ -20,8 +20,9 @@ use Rattle.model.specs.declared.Item.the-variants.{Word, Number, LineEnd
 use Rattle.model.specs.declared.Run.{Run}
 use Rattle.model.specs.declared.Step.{Step}
 use Rattle.model.specs.Basic.{pick}
-use Rattle.model.specs.Text.{isLetter, isDigit, digitsIn, digits, capTo, capped, grow, NoDigit, runFrom, step}
-use Rattle.model.specs.Text.{numberStep, itemFrom, stepAt}
+use Rattle.model.specs.Text.{isLetter, isDigit, digitsIn, digits, capTo, capped, growTo, NoDigit, runTo, step}
+use Rattle.model.specs.Text.{numberStep, itemTo, stepTo, stepAt}
+use Rattle.model.specs.Grammar.{Beyond}
 
 -- ---- the digits of a number
 same-digits : (f g n : ℕ) → n ≤ f → n ≤ g → digitsIn f n ≡ digitsIn g n
@@ -79,9 +80,6 @@ pub and-true : (a b : Bool) → a && b ≡ true → (a ≡ true) × (b ≡ true)
 and-true a b = and-eq-true-iff a b .0
 
 -- a number outside its field
-abbrev pub Beyond : (lo hi v : ℕ) → Type 0
-Beyond lo hi v = (v < lo) ⊎ (hi < v)
-
 pub beyond : (lo hi v : ℕ) → leb lo v && leb v hi ≡ false → Beyond lo hi v
 beyond lo hi v = go (leb lo v) refl (leb v hi) refl
   where
@@ -114,15 +112,16 @@ cap-is limit n {v} e h = go (ltb n limit) refl
         absurd (omega arith)
 
 -- the cap does not change whether a value is in its field
-pub capped-inside : (lo hi v : ℕ) → hi ≤ 256 → leb lo (capped v) && leb (capped v) hi ≡ leb lo v && leb v hi
-capped-inside lo hi v k = go (ltb v 257) refl
+pub cap-inside : (limit lo hi v : ℕ) → hi < limit
+    → leb lo (capTo limit v) && leb (capTo limit v) hi ≡ leb lo v && leb v hi
+cap-inside limit lo hi v k = go (ltb v limit) refl
   where
-    go : (b : Bool) → ltb v 257 ≡ b → leb lo (capped v) && leb (capped v) hi ≡ leb lo v && leb v hi
+    go : (b : Bool) → ltb v limit ≡ b → leb lo (capTo limit v) && leb (capTo limit v) hi ≡ leb lo v && leb v hi
     go true t = rw t
     go false t =
-        let h = ltb-false v 257 t in
-        rw (t, lt-leb 257 hi (omega arith), lt-leb v hi (omega arith))
-        (and-false (leb lo 257) ∙ sym (and-false (leb lo v)))
+        let h = ltb-false v limit t in
+        rw (t, lt-leb limit hi k, lt-leb v hi (omega arith))
+        (and-false (leb lo limit) ∙ sym (and-false (leb lo v)))
 
 pub capped-low : (n : ℕ) → n ≤ 256 → capped n ≡ n
 capped-low n h = cap-low 257 n (omega arith)
@@ -133,51 +132,34 @@ capped-high n h = rw (le-ltb n 257 (omega arith))
 pub digit : (r : ℕ) → r < 10 → isDigit (48 + r) ≡ true
 digit r h = rw (le-leb 48 (48 + r) (omega arith), le-leb (48 + r) 57 (omega arith))
 
-grow-low : (m r : ℕ) → m * 10 + r < 257 → r < 10 → grow m (48 + r) ≡ m * 10 + r
-grow-low m r h k =
-    let e : m * 10 + ((48 + r) - 48) ≡ m * 10 + r = omega arith in
-    rw (e, lt-ltb (m * 10 + r) 257 h)
+-- one digit, and one more, under a limit
+grow-first : (limit n : ℕ) → growTo limit 0 (48 + n) ≡ capTo limit n
+grow-first limit n = ap (capTo limit) (omega arith)
 
-grow-high : (m r : ℕ) → 257 ≤ m * 10 + r → r < 10 → grow m (48 + r) ≡ 257
-grow-high m r h k =
-    let e : m * 10 + ((48 + r) - 48) ≡ m * 10 + r = omega arith in
-    rw (e, le-ltb (m * 10 + r) 257 h)
-
--- one digit more, under the cap
-grow-capped : (n : ℕ) → grow (capped (n / 10)) (48 + n % 10) ≡ capped n
-grow-capped n = go (ltb n 257) refl (ltb (n / 10) 257) refl
+grow-capped : (limit n : ℕ) → growTo limit (capTo limit (n / 10)) (48 + n % 10) ≡ capTo limit n
+grow-capped limit n = go (ltb (n / 10) limit) refl
   where
-    go : (b : Bool) → ltb n 257 ≡ b → (d : Bool) → ltb (n / 10) 257 ≡ d
-        → grow (capped (n / 10)) (48 + n % 10) ≡ capped n
-    go true e true f =
-        let h = ltb-true n 257 e in
-        let q : n / 10 * 10 + n % 10 ≡ n = omega arith in
-        rw (e, f) (grow-low (n / 10) (n % 10) (omega arith) (omega arith) ∙ q)
-    go true e false f =
-        let h = ltb-true n 257 e in
-        let k = ltb-false (n / 10) 257 f in
-        absurd (omega arith)
-    go false e true f =
-        let h = ltb-false n 257 e in
-        rw (e, f) (grow-high (n / 10) (n % 10) (omega arith) (omega arith))
-    go false e false f = rw (e, f) (grow-high 257 (n % 10) (omega arith) (omega arith))
+    go : (d : Bool) → ltb (n / 10) limit ≡ d → growTo limit (capTo limit (n / 10)) (48 + n % 10) ≡ capTo limit n
+    go true f = rw f (ap (capTo limit) (omega arith))
+    go false f =
+        let k = ltb-false (n / 10) limit f in
+        rw (f, le-ltb (limit * 10 + ((48 + n % 10) - 48)) limit (omega arith), le-ltb n limit (omega arith))
 
 -- the run goes on after the digits of n with n
-run-on : (f n : ℕ) → n ≤ f → (at : ℕ) (rest : List ℕ)
-    → runFrom 0 at (digitsIn f n ++ rest) ≡ runFrom (capped n) (at + length (digitsIn f n)) rest
-run-on zero n h at rest =
-    rw (digit n (omega arith), grow-low 0 n (omega arith) (omega arith), lt-ltb n 257 (omega arith))
-    (ap (λ (v : ℕ). runFrom v (at + 1) rest) (omega arith))
-run-on (suc f) n h at rest = go (ltb n 10) refl (λ l. run-on f (n / 10) l at)
+run-on : (limit f n : ℕ) → n ≤ f → (at : ℕ) (rest : List ℕ)
+    → runTo limit 0 at (digitsIn f n ++ rest) ≡ runTo limit (capTo limit n) (at + length (digitsIn f n)) rest
+run-on limit zero n h at rest = rw (digit n (omega arith), grow-first limit n)
+run-on limit (suc f) n h at rest = go (ltb n 10) refl (λ l. run-on limit f (n / 10) l at)
   where
     go : (b : Bool) → ltb n 10 ≡ b
         → (n / 10 ≤ f → (r : List ℕ)
-        → runFrom 0 at (digitsIn f (n / 10) ++ r) ≡ runFrom (capped (n / 10)) (at + length (digitsIn f (n / 10))) r)
-        → runFrom 0 at (digitsIn (suc f) n ++ rest) ≡ runFrom (capped n) (at + length (digitsIn (suc f) n)) rest
+        → runTo limit 0 at (digitsIn f (n / 10) ++ r)
+        ≡ runTo limit (capTo limit (n / 10)) (at + length (digitsIn f (n / 10))) r)
+        → runTo limit 0 at (digitsIn (suc f) n ++ rest)
+        ≡ runTo limit (capTo limit n) (at + length (digitsIn (suc f) n)) rest
     go true e ih =
         let l = ltb-true n 10 e in
-        rw (e, digit n (omega arith), grow-low 0 n (omega arith) (omega arith), lt-ltb n 257 (omega arith))
-        (ap (λ (v : ℕ). runFrom v (at + 1) rest) (omega arith))
+        rw (e, digit n (omega arith), grow-first limit n)
     go false e ih =
         let l = ltb-false n 10 e in
         let m : n % 10 < 10 = omega arith in
@@ -186,20 +168,21 @@ run-on (suc f) n h at rest = go (ltb n 10) refl (λ l. run-on f (n / 10) l at)
           append-assoc,
           ih (omega arith) (((48 + n % 10) ∷ []) ++ rest),
           digit (n % 10) m,
-          grow-capped n,
+          grow-capped limit n,
           length-append,
           add-assoc,
         )
 
-run-stops : (rest : List ℕ) → NoDigit rest → (v i : ℕ) → runFrom v i rest ≡ record { value = v; end = i }
-run-stops [] h v i = refl
-run-stops (x ∷ xs) h v i = rw h
+run-stops : (limit : ℕ) (rest : List ℕ) → NoDigit rest → (v i : ℕ)
+    → runTo limit v i rest ≡ record { value = v; end = i }
+run-stops limit [] h v i = refl
+run-stops limit (x ∷ xs) h v i = rw h
 
-run-back : (n : ℕ) (rest : List ℕ) → NoDigit rest → (at : ℕ)
-    → runFrom 0 at (digits n ++ rest) ≡ record { value = capped n; end = at + length (digits n) }
+run-back : (limit n : ℕ) (rest : List ℕ) → NoDigit rest → (at : ℕ)
+    → runTo limit 0 at (digits n ++ rest) ≡ record { value = capTo limit n; end = at + length (digits n) }
 unfolding digits
-run-back n rest nd at =
-    run-on n n (le-refl n) at rest ∙ run-stops rest nd (capped n) (at + length (digitsIn n n))
+run-back limit n rest nd at =
+    run-on limit n n (le-refl n) at rest ∙ run-stops limit rest nd (capTo limit n) (at + length (digitsIn n n))
 
 digits-is : (n : ℕ) → digits n ≡ digitsIn n n
 unfolding digits
@@ -226,26 +209,27 @@ first (suc f) n h k = go (ltb n 10) refl (λ l r. first f (n / 10) l r)
 no-letter : (x : ℕ) → x ≤ 57 → isLetter x ≡ false
 no-letter x h = rw (lt-leb 97 x (omega arith))
 
-item-first : (at x : ℕ) (xs : List ℕ) (r : Run) → 49 ≤ x → x ≤ 57 → runFrom 0 at (x ∷ xs) ≡ r
-    → itemFrom at (x ∷ xs) ≡ step (Number (r .value)) at (r .end)
-item-first at x xs r lo hi g =
+item-first : (limit at x : ℕ) (xs : List ℕ) (r : Run) → 49 ≤ x → x ≤ 57 → runTo limit 0 at (x ∷ xs) ≡ r
+    → itemTo limit at (x ∷ xs) ≡ step (Number (r .value)) at (r .end)
+item-first limit at x xs r lo hi g =
     let d : isDigit x ≡ true = rw (le-leb 48 x (omega arith), le-leb x 57 hi) in
     let z : eqb x 48 ≡ false = ne-eqb x 48 (λ e. omega arith) in
     rw (no-letter x hi, z, g, d)
 
-item-back : (n : ℕ) (rest : List ℕ) → NoDigit rest → (at : ℕ)
-    → itemFrom at (digits n ++ rest) ≡ step (Number (capped n)) at (at + length (digits n))
-item-back zero rest nd at =
-    let e : runFrom 0 at (48 ∷ rest) ≡ record { value = 0; end = at + 1 } =
-    rw (digits-low 0 (omega arith)) at (run-back 0 rest nd at) in
+item-back : (limit n : ℕ) (rest : List ℕ) → NoDigit rest → (at : ℕ)
+    → itemTo limit at (digits n ++ rest) ≡ step (Number (capTo limit n)) at (at + length (digits n))
+item-back limit zero rest nd at =
+    let e : runTo limit 0 at (48 ∷ rest) ≡ record { value = capTo limit 0; end = at + 1 } =
+    rw (digits-low 0 (omega arith)) at (run-back limit 0 rest nd at) in
     rw (digits-low 0 (omega arith), e, le-ltb (at + 1) (at + 1) (le-refl (at + 1)))
-item-back (suc m) rest nd at =
+item-back limit (suc m) rest nd at =
     let (x, xs, p, lo, hi) = first (suc m) (suc m) (le-refl (suc m)) (omega arith) in
     let q : digits (suc m) ≡ x ∷ xs = digits-is (suc m) ∙ p in
-    let g = run-back (suc m) rest nd at in
-    let g′ : runFrom 0 at (x ∷ (xs ++ rest)) ≡ record { value = capped (suc m); end = at + length (digits (suc m)) } =
+    let g = run-back limit (suc m) rest nd at in
+    let g′ : runTo limit 0 at (x ∷ (xs ++ rest))
+    ≡ record { value = capTo limit (suc m); end = at + length (digits (suc m)) } =
     rw (ap (λ (l : List ℕ). l ++ rest) q) at g in
-    ap (λ (l : List ℕ). itemFrom at (l ++ rest)) q ∙ item-first at x (xs ++ rest) _ lo hi g′
+    ap (λ (l : List ℕ). itemTo limit at (l ++ rest)) q ∙ item-first limit at x (xs ++ rest) _ lo hi g′
 
 -- ---- no two numbers have the same digits, whatever follows that is no digit
 -- the number that digits after v make, and what follows them
@@ -280,28 +264,29 @@ digits-apart n n′ rest rest′ d d′ e =
     (ap (λ p. p .0) q, ap (λ p. p .1) q)
 
 -- ---- what is yielded
-pub run-end : (xs : List ℕ) (v i : ℕ) → i ≤ runFrom v i xs .end
-run-end [] v i = le-refl i
-run-end (x ∷ xs) v i = go (isDigit x) refl (run-end xs (grow v x) (i + 1))
+pub run-end : (limit : ℕ) (xs : List ℕ) (v i : ℕ) → i ≤ runTo limit v i xs .end
+run-end limit [] v i = le-refl i
+run-end limit (x ∷ xs) v i = go (isDigit x) refl (run-end limit xs (growTo limit v x) (i + 1))
   where
-    go : (b : Bool) → isDigit x ≡ b → i + 1 ≤ runFrom (grow v x) (i + 1) xs .end → i ≤ runFrom v i (x ∷ xs) .end
+    go : (b : Bool) → isDigit x ≡ b → i + 1 ≤ runTo limit (growTo limit v x) (i + 1) xs .end
+        → i ≤ runTo limit v i (x ∷ xs) .end
     go true t ih = rw t (omega arith)
     go false t ih = rw t (le-refl i)
 
--- a number is yielded for its whole run of digits, whatever its length: it, or 257 where it is above 256
-pub number-yielded : (s : List ℕ) (at n : ℕ) (rest : List ℕ) → drop at s ≡ digits n ++ rest → NoDigit rest
-    → stepAt s at ≡ step (Number (capped n)) at (at + length (digits n))
-number-yielded s at n rest e nd = rw e (item-back n rest nd at)
+-- a number is yielded for its whole run of digits, whatever its length: it, or the limit where it is not below it
+pub number-yielded : (limit : ℕ) (s : List ℕ) (at n : ℕ) (rest : List ℕ) → drop at s ≡ digits n ++ rest → NoDigit rest
+    → stepTo limit s at ≡ step (Number (capTo limit n)) at (at + length (digits n))
+number-yielded limit s at n rest e nd = rw e (item-back limit n rest nd at)
 
 pub number-low : (s : List ℕ) (at n : ℕ) (rest : List ℕ) → drop at s ≡ digits n ++ rest → NoDigit rest → n ≤ 256
     → stepAt s at ≡ step (Number n) at (at + length (digits n))
 number-low s at n rest e nd h =
-    number-yielded s at n rest e nd ∙ ap (λ v. step (Number v) at (at + length (digits n))) (capped-low n h)
+    number-yielded 257 s at n rest e nd ∙ ap (λ v. step (Number v) at (at + length (digits n))) (capped-low n h)
 
 pub number-high : (s : List ℕ) (at n : ℕ) (rest : List ℕ) → drop at s ≡ digits n ++ rest → NoDigit rest → 256 < n
     → stepAt s at ≡ step (Number 257) at (at + length (digits n))
 number-high s at n rest e nd h =
-    number-yielded s at n rest e nd ∙ ap (λ v. step (Number v) at (at + length (digits n))) (capped-high n h)
+    number-yielded 257 s at n rest e nd ∙ ap (λ v. step (Number v) at (at + length (digits n))) (capped-high n h)
 
 -- past the end nothing is
 pub nothing-yielded : (s : List ℕ) (at : ℕ) → length s ≤ at → stepAt s at ≡ step Other at at
@@ -311,8 +296,9 @@ nothing-yielded s at h = rw (drop-of-length-le s h)
 pub leading-zero : (s : List ℕ) (at x : ℕ) (rest : List ℕ) → drop at s ≡ 48 ∷ x ∷ rest → isDigit x ≡ true
     → stepAt s at ≡ step Other (at + 1) (at + 1)
 leading-zero s at x rest e d =
-    let l = run-end rest (grow (grow 0 48) x) (at + 1 + 1) in
-    rw (e, d, lt-ltb (at + 1) (runFrom (grow (grow 0 48) x) (at + 1 + 1) rest .end) (omega arith))
+    let v = growTo 257 (growTo 257 0 48) x in
+    let l = run-end 257 rest v (at + 1 + 1) in
+    rw (e, d, lt-ltb (at + 1) (runTo 257 v (at + 1 + 1) rest .end) (omega arith))
 
 -- ---- from what is read to the digits
 -- one digit more
@@ -344,16 +330,19 @@ other-no-number : {A : Type 0} (v : ℕ) → Other ≡ Number v → A
 other-no-number v e = absurd (let z : _≡_ {A = ℕ} 0 1 = cc in omega arith)
 
 -- a run that a number was read from
-number-stands : (at x : ℕ) (xs : List ℕ) (v : ℕ) → isDigit x ≡ true
-    → numberStep at x (runFrom 0 at (x ∷ xs)) .item ≡ Number v → Stands (x ∷ xs)
-number-stands at x xs v t i = go (eqb x 48) refl
+number-stands : (limit at x : ℕ) (xs : List ℕ) (v : ℕ) → isDigit x ≡ true
+    → numberStep at x (runTo limit 0 at (x ∷ xs)) .item ≡ Number v → Stands (x ∷ xs)
+number-stands limit at x xs v t i = go (eqb x 48) refl
   where
-    alone : (ys : List ℕ) → runFrom (grow 0 x) (at + 1) ys .end ≤ at + 1 → NoDigit ys
+    one : ℕ
+    one = growTo limit 0 x
+
+    alone : (ys : List ℕ) → runTo limit one (at + 1) ys .end ≤ at + 1 → NoDigit ys
     alone [] h = tt
     alone (y ∷ ys) h = next (isDigit y) refl
       where
         next : (b : Bool) → isDigit y ≡ b → isDigit y ≡ false
-        next true d = absurd (omega (arith, run-end ys (grow (grow 0 x) y) (at + 1 + 1), rw d at h))
+        next true d = absurd (omega (arith, run-end limit ys (growTo limit one y) (at + 1 + 1), rw d at h))
         next false d = d
 
     go : (b : Bool) → eqb x 48 ≡ b → Stands (x ∷ xs)
@@ -363,9 +352,9 @@ number-stands at x xs v t i = go (eqb x 48) refl
         ap (λ (a : ℕ). a ∷ []) (omega arith) ∙ sym (digits-low (x - 48) (omega arith)) in
         let (n, rest, p, nd) = whole-run xs (x - 48) (omega (arith, eqb-false x 48 c)) in
         (n, rest, ap (λ (a : List ℕ). a ++ xs) e ∙ p, nd)
-    go true c = zero-run (ltb (at + 1) (runFrom (grow 0 x) (at + 1) xs .end)) refl
+    go true c = zero-run (ltb (at + 1) (runTo limit one (at + 1) xs .end)) refl
       where
-        zero-run : (d : Bool) → ltb (at + 1) (runFrom (grow 0 x) (at + 1) xs .end) ≡ d → Stands (x ∷ xs)
+        zero-run : (d : Bool) → ltb (at + 1) (runTo limit one (at + 1) xs .end) ≡ d → Stands (x ∷ xs)
         zero-run true d = other-no-number v (rw (t, c, d) at i)
         zero-run false d =
             let e : x ∷ [] ≡ digits 0 =
@@ -373,27 +362,28 @@ number-stands at x xs v t i = go (eqb x 48) refl
               0,
               xs,
               ap (λ (a : List ℕ). a ++ xs) e,
-              alone xs (ltb-false (at + 1) (runFrom (grow 0 x) (at + 1) xs .end) d),
+              alone xs (ltb-false (at + 1) (runTo limit one (at + 1) xs .end) d),
             )
 
-item-stands : (at : ℕ) (xs : List ℕ) (v : ℕ) → itemFrom at xs .item ≡ Number v → Stands xs
-item-stands at [] v h = other-no-number v h
-item-stands at (x ∷ xs) v h = go (isLetter x) refl (isDigit x) refl (eqb x 10) refl
+item-stands : (limit at : ℕ) (xs : List ℕ) (v : ℕ) → itemTo limit at xs .item ≡ Number v → Stands xs
+item-stands limit at [] v h = other-no-number v h
+item-stands limit at (x ∷ xs) v h = go (isLetter x) refl (isDigit x) refl (eqb x 10) refl
   where
     go : (a : Bool) → isLetter x ≡ a → (b : Bool) → isDigit x ≡ b → (d : Bool) → eqb x 10 ≡ d → Stands (x ∷ xs)
     go true t b u d w =
         absurd (let j : Word ≡ Number v = rw t at h in let z : _≡_ {A = ℕ} 0 1 = cc in omega arith)
     go false t true u d w =
-        let e : itemFrom at (x ∷ xs) ≡ numberStep at x (runFrom 0 at (x ∷ xs)) = rw (t, u) in
-        number-stands at x xs v u (sym (ap (λ (r : Step). r .item) e) ∙ h)
+        let e : itemTo limit at (x ∷ xs) ≡ numberStep at x (runTo limit 0 at (x ∷ xs)) = rw (t, u) in
+        number-stands limit at x xs v u (sym (ap (λ (r : Step). r .item) e) ∙ h)
     go false t false u true w =
         absurd (let j : LineEnd ≡ Number v = rw (t, u, w) at h in let z : _≡_ {A = ℕ} 0 1 = cc in omega arith)
     go false t false u false w = other-no-number v (rw (t, u, w) at h)
 
 -- where a number is yielded stands the whole run of its digits
-pub yielded-number : (s : List ℕ) (at v : ℕ) → stepAt s at .item ≡ Number v
-    → (n : ℕ) × (rest : List ℕ) × (drop at s ≡ digits n ++ rest) × NoDigit rest × (v ≡ capped n)
-yielded-number s at v h =
-    let (n, rest, e, nd) = item-stands at (drop at s) v h in
-    let q : Number v ≡ Number (capped n) = sym h ∙ ap (λ (st : Step). st .item) (number-yielded s at n rest e nd) in
+pub yielded-number : (limit : ℕ) (s : List ℕ) (at v : ℕ) → stepTo limit s at .item ≡ Number v
+    → (n : ℕ) × (rest : List ℕ) × (drop at s ≡ digits n ++ rest) × NoDigit rest × (v ≡ capTo limit n)
+yielded-number limit s at v h =
+    let (n, rest, e, nd) = item-stands limit at (drop at s) v h in
+    let q : Number v ≡ Number (capTo limit n) =
+    sym h ∙ ap (λ (st : Step). st .item) (number-yielded limit s at n rest e nd) in
     (n, rest, e, nd, cc)

@@ -17,8 +17,9 @@ use Rattle.model.specs.declared.Place.{Place}
 use Rattle.model.specs.declared.Run.{Run}
 use Rattle.model.specs.declared.Step.{Step}
 use Rattle.model.specs.Basic.{pick}
-use Rattle.model.specs.Text.{isLetter, isDigit, grow, runFrom, numberStep, itemFrom}
-use Rattle.model.specs.Format.{Part, fixed, number, isAt, fixedAt, field, fieldBy, fieldAt, Parsed, parsed, parse}
+use Rattle.model.specs.Text.{isLetter, isDigit, growTo, runTo, numberStep, itemTo}
+use Rattle.model.specs.Format.{Part, fixed, number, isAt, fixedAt, field, fieldBy, limitOf, fieldAt, Parsed}
+use Rattle.model.specs.Format.{parsed, parse}
 use Rattle.model.proofs.Basic.{zero-cases, pick-cong}
 use Rattle.model.proofs.Text.{run-end}
 use Rattle.model.proofs.Format.{Good}
@@ -53,20 +54,28 @@ module _ (q t t′ : List ℕ) where
   abbrev Runs : ℕ → Run → Run → Type 0
   Runs n r r′ = (r ≡ r′) ⊎ ((n ≤ r .end) × (n ≤ r′ .end))
 
-  run-local : (u : List ℕ) (v i : ℕ) → Runs (i + length u) (runFrom v i (u ++ t)) (runFrom v i (u ++ t′))
-  run-local [] v i = inr (omega (arith, run-end t v i), omega (arith, run-end t′ v i))
-  run-local (x ∷ u) v i = go (isDigit x) refl (run-local u (grow v x) (i + 1))
+  run-local : (limit : ℕ) (u : List ℕ) (v i : ℕ)
+      → Runs (i + length u) (runTo limit v i (u ++ t)) (runTo limit v i (u ++ t′))
+  run-local limit [] v i = inr (omega (arith, run-end limit t v i), omega (arith, run-end limit t′ v i))
+  run-local limit (x ∷ u) v i = go (isDigit x) refl (run-local limit u (growTo limit v x) (i + 1))
     where
       l : i + 1 + length u ≡ i + suc (length u)
       l = omega arith
 
+      w : ℕ
+      w = growTo limit v x
+
       go : (b : Bool) → isDigit x ≡ b
-          → Runs (i + 1 + length u) (runFrom (grow v x) (i + 1) (u ++ t)) (runFrom (grow v x) (i + 1) (u ++ t′))
-          → Runs (i + length (x ∷ u)) (runFrom v i (x ∷ u ++ t)) (runFrom v i (x ∷ u ++ t′))
+          → Runs (i + 1 + length u) (runTo limit w (i + 1) (u ++ t)) (runTo limit w (i + 1) (u ++ t′))
+          → Runs (i + length (x ∷ u)) (runTo limit v i (x ∷ u ++ t)) (runTo limit v i (x ∷ u ++ t′))
       go true e ih = rw (e, ← l) ih
       go false e ih = rw e (inl refl)
 
   module _ (lo hi end : ℕ) where
+    -- what its digits are read under
+    abbrev limit : ℕ
+    limit = limitOf hi
+
     -- the number of a field, by an item
     abbrev fieldOf : List ℕ → Step → Field
     fieldOf s st = fieldBy lo hi end s (st .item) (st .at) (st .next)
@@ -110,30 +119,30 @@ module _ (q t t′ : List ℕ) where
 
     -- any item
     digit-item : (at x : ℕ) (xs : List ℕ) → isLetter x ≡ false → isDigit x ≡ true
-        → itemFrom at (x ∷ xs) ≡ numberStep at x (runFrom 0 at (x ∷ xs))
+        → itemTo limit at (x ∷ xs) ≡ numberStep at x (runTo limit 0 at (x ∷ xs))
     digit-item at x xs a b = rw (a, b)
 
     from-local : (at : ℕ) (u : List ℕ) → at + length u ≡ length q → at < length q
-        → Saw (fieldOf (q ++ t) (itemFrom at (u ++ t)))
-        → fieldOf (q ++ t) (itemFrom at (u ++ t)) ≡ fieldOf (q ++ t′) (itemFrom at (u ++ t′))
+        → Saw (fieldOf (q ++ t) (itemTo limit at (u ++ t)))
+        → fieldOf (q ++ t) (itemTo limit at (u ++ t)) ≡ fieldOf (q ++ t′) (itemTo limit at (u ++ t′))
     from-local at [] l h k = absurd (omega arith)
     from-local at (x ∷ u) l h k = go (isLetter x) refl (isDigit x) refl (eqb x 10) refl
       where
         go : (a : Bool) → isLetter x ≡ a → (b : Bool) → isDigit x ≡ b → (d : Bool) → eqb x 10 ≡ d
-            → fieldOf (q ++ t) (itemFrom at (x ∷ u ++ t)) ≡ fieldOf (q ++ t′) (itemFrom at (x ∷ u ++ t′))
+            → fieldOf (q ++ t) (itemTo limit at (x ∷ u ++ t)) ≡ fieldOf (q ++ t′) (itemTo limit at (x ∷ u ++ t′))
         go true e b f d g = rw e
         go false e true f d g =
             let s = digit-item at x (u ++ t) e f in
             let s′ = digit-item at x (u ++ t′) e f in
-            rw (s, s′) (number-local at x _ _ (rw l at (run-local (x ∷ u) 0 at)) (rw s at k))
+            rw (s, s′) (number-local at x _ _ (rw l at (run-local limit (x ∷ u) 0 at)) (rw s at k))
         go false e false f true g = rw (e, f, g)
         go false e false f false g = rw (e, f, g)
 
-    field-local : hi ≤ 256 → (at : ℕ) → Saw (fieldAt lo hi end (q ++ t) at)
+    field-local : (at : ℕ) → Saw (fieldAt lo hi end (q ++ t) at)
         → fieldAt lo hi end (q ++ t) at ≡ fieldAt lo hi end (q ++ t′) at
     unfolding fieldAt
-    field-local k at h =
-        let (v, r, _, _) = field-agrees lo hi end k (q ++ t) at in
+    field-local at h =
+        let (v, r, _, _) = field-agrees lo hi end (q ++ t) at in
         let a : at < length q = omega (arith, r .rises, h .1) in
         let s = drop-append-le at q t (omega arith) in
         let s′ = drop-append-le at q t′ (omega arith) in
@@ -156,10 +165,10 @@ module _ (q t t′ : List ℕ) where
           zero-cases (λ (r : Parsed). r .at < length q → p .at < length q) (p .refusal)
           (λ z k. omega (arith, parse-rises ps g (q ++ t) (p .at))) (λ z k. k) h
   parse-local (number lo hi end ∷ ps) g at n h =
-      rw (← field-local lo hi end (g .0) at saw)
+      rw (← field-local lo hi end at saw)
       (pick-cong (eqb (f .refusal) 0) (λ e.
       ap (λ (r : Parsed). parsed (r .refusal) (r .at) (f .value ∷ r .values))
-      (parse-local ps (g .2) (f .at) (rw e at n) (rw e at h))) (λ e. refl))
+      (parse-local ps (g .1) (f .at) (rw e at n) (rw e at h))) (λ e. refl))
     where
       f : Field
       f = fieldAt lo hi end (q ++ t) at
@@ -167,4 +176,4 @@ module _ (q t t′ : List ℕ) where
       saw : Saw lo hi end f
       saw =
           zero-cases (λ (r : Parsed). (r .refusal ≡ 11 → ⊥) → r .at < length q → Saw lo hi end f) (f .refusal)
-          (λ z m k. (λ y. omega arith, omega (arith, parse-rises ps (g .2) (q ++ t) (f .at)))) (λ z m k. (m, k)) n h
+          (λ z m k. (λ y. omega arith, omega (arith, parse-rises ps (g .1) (q ++ t) (f .at)))) (λ z m k. (m, k)) n h

@@ -44,7 +44,7 @@ digits-in (suc f) n h = go (ltb n 10) refl (digits-in f (n / 10))
           decimal-append (digitsIn f (n / 10)) last 0 ∙ rw value (omega arith),
         )
 
-digits-are : (n : ℕ) → Figures n (digits n)
+pub digits-are : (n : ℕ) → Figures n (digits n)
 unfolding digits
 digits-are n = digits-in n n (omega arith)
 

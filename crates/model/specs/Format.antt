@@ -12,7 +12,7 @@ use Rattle.model.specs.declared.Item.the-variants.{Word, Number, LineEnd
 use Rattle.model.specs.declared.Measures.{Measures}
 use Rattle.model.specs.declared.Place.{Place}
 use Rattle.model.specs.Basic.{pick}
-use Rattle.model.specs.Text.{space, lineEnd, digits, stepAt}
+use Rattle.model.specs.Text.{space, lineEnd, digits, stepTo}
 use Rattle.model.specs.Sheet.{Sheet, sideOf, entriesOf, cellsOf, roomFor, endOf, names, psfName, grayName}
 use Rattle.model.specs.Sheet.{dotsName}
 
@@ -31,16 +31,20 @@ grid w hi i (suc n) = number 0 hi (endOf w i) ∷ grid w hi (i + 1) n
 abbrev pub block : (name : List ℕ) (w n hi : ℕ) → List Part
 block name w n hi = fixed name ∷ grid w hi 0 n
 
--- line 1, and line 2 with the measures in their fields
-unfoldable pub head : List Part
-head =
+-- line 1, and line 2 with the measures in their fields, the kind of start from the least allowed on
+unfoldable pub headFrom : (least : ℕ) → List Part
+headFrom least =
     fixed names
     ∷ number 1 256 space
     ∷ number 1 256 space
     ∷ number 0 3 space
     ∷ number 0 6 space
-    ∷ number 0 2 lineEnd
+    ∷ number least 2 lineEnd
     ∷ []
+
+-- those of a sheet
+abbrev pub head : List Part
+head = headFrom 0
 
 abbrev pub psfBlock : Measures → List Part
 psfBlock m = block psfName (sideOf m) (entriesOf m) 255
@@ -86,9 +90,15 @@ fieldBy lo hi end s Word at next = field 10 at 0
 fieldBy lo hi end s LineEnd at next = field 10 at 0
 fieldBy lo hi end s Other at next = field 10 at 0
 
+-- what numbers are read under: document 01's 257 in the fields of a sheet, and one above any wider field
+abbrev pub limitOf : (hi : ℕ) → ℕ
+limitOf hi = pick (leb hi 256) 257 (hi + 1)
+
 -- a number from lo to hi and the byte that ends it
 unfoldable pub fieldAt : (lo hi end : ℕ) → List ℕ → ℕ → Field
-fieldAt lo hi end s at = fieldBy lo hi end s (stepAt s at .item) (stepAt s at .at) (stepAt s at .next)
+fieldAt lo hi end s at =
+    let step = stepTo (limitOf hi) s at in
+    fieldBy lo hi end s (step .item) (step .at) (step .next)
 
 -- ---- reading parts
 -- refusal 0, the place after the parts and their values; or the first refusal, its byte offset and the values before it
@@ -138,11 +148,15 @@ measuresOf vs = record {
   start = getD vs 4 0;
 }
 
--- lines 1 and 2
-unfoldable pub headOf : List ℕ → Head
-headOf s =
-    let p = parse head s 0 in
+-- lines 1 and 2, by their parts
+unfoldable pub headBy : List Part → List ℕ → Head
+headBy lines s =
+    let p = parse lines s 0 in
     record { refusal = p .refusal; at = p .at; measures = measuresOf (p .values) }
+
+-- those of a sheet
+abbrev pub headOf : List ℕ → Head
+headOf = headBy head
 
 -- a sheet that was read; or a refusal with its byte offset, and then nothing is held
 pub record Read : Type 0 where

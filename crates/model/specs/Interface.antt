@@ -4,22 +4,29 @@
 use mathlib.Core.Bool.{not}
 use mathlib.Core.List.{List, [], _∷_, _++_}
 use mathlib.Core.Path.{_≡_}
-use Prim.Native.Nat.{ℕ, _-_, _^_}
+use Prim.Native.Nat.{ℕ}
 use lib.Dec.{eqb}
-use lib.IntN.{ℤ, pos, negsuc}
+use lib.IntN.{ℤ, pos, _-ℤ_}
 use lib.Signed.{_≤ℤ_, _<ℤ_}
 use lib.ListN.{length, getD}
 use Rattle.model.specs.declared.Measures.{Measures}
 use Rattle.model.specs.declared.Stats.{Stats}
 use Rattle.model.specs.declared.ScanResult.{ScanResult}
 use Rattle.model.specs.declared.ConvergeResult.{ConvergeResult}
+use Rattle.model.specs.declared.Resting.{Resting}
+use Rattle.model.specs.declared.Resting.the-variants.{Rests, Lowers, Unstarted}
+use Rattle.model.specs.declared.Verdict.{Verdict}
+use Rattle.model.specs.Basic.{pick}
+use Rattle.model.specs.Ledger.{countOf}
 use Rattle.model.specs.Refusal.{Refusal, _when_, firstOf, badMeasures}
 use Rattle.model.specs.Reference.{Tried, accepted, declined}
 use Rattle.model.specs.Calls.{Reply, result, refused, Outcome, unless, Buffers}
 use Rattle.model.specs.Calls.{startCall, toggleCall, swapCall, toggleScanCall, swapScanCall, convergeCall}
 use Rattle.model.specs.Lists.{Call, toggleAt, swapAt, toggleScan, swapScan, convergence}
 use Rattle.model.specs.Lists.{Result, tried, swept, rested, runBy, Held, outcome}
+use Rattle.model.specs.Sheet.{cellsOf}
 use Rattle.model.specs.SheetCalls.{SheetBuffers, readCall}
+use Rattle.model.specs.FiledCalls.{CheckBuffers, checkCall}
 
 -- ---- an answer in numbers
 -- the status: 0, or document 01's refusal number
@@ -37,8 +44,8 @@ after f b (refused n o) = b
 abbrev pub statsSize : ℕ
 statsSize = 6
 
-abbrev pub numbers : Stats → List ℤ
-numbers s =
+abbrev pub statsNumbers : Stats → List ℤ
+statsNumbers s =
     let f = s .figures in
     f .«start_error»
     ∷ s .error
@@ -47,11 +54,6 @@ numbers s =
     ∷ pos (f .off)
     ∷ pos (f .swaps)
     ∷ []
-
--- a count: a number below 0 is none, and stands for the greatest of 64 bits, which 21 refuses
-abbrev pub countOf : ℤ → ℕ
-countOf (pos n) = n
-countOf (negsuc n) = 2 ^ 64 - 1
 
 -- the ledger in such a slice
 unfoldable pub statsIn : List ℤ → Stats
@@ -106,7 +108,7 @@ changeOf (declined d) = d
 
 -- the ledger that an attempt leaves in its slice: the new one, or, declined, the one that stood there
 abbrev pub triedNumbers : List ℤ → Tried → List ℤ
-triedNumbers l (accepted s d) = numbers s
+triedNumbers l (accepted s d) = statsNumbers s
 triedNumbers l (declined d) = l
 
 -- an attempt that was accepted
@@ -123,10 +125,10 @@ pub record Told (dots : List ℕ) (table stats : List ℤ) (a : Tried) (left : B
       → (left .dots ≡ dots) × (left .table ≡ table) × (triedNumbers stats a ≡ stats)
 
 abbrev pub scanNumbers : ScanResult → List ℤ
-scanNumbers r = numbers (r .stats)
+scanNumbers r = statsNumbers (r .stats)
 
 abbrev pub convergeNumbers : ConvergeResult → List ℤ
-convergeNumbers r = numbers (r .stats)
+convergeNumbers r = statsNumbers (r .stats)
 
 -- ---- lists of its later calls: each handed what the last one left behind the pointers
 pub record Slices : Type 0 where
@@ -136,7 +138,7 @@ pub record Slices : Type 0 where
 
 -- what later calls are handed, in slices, and what stands in slices for them
 abbrev pub slicesOf : Held → Slices
-slicesOf h = record { dots = h .dots; table = h .table; stats = numbers (h .stats) }
+slicesOf h = record { dots = h .dots; table = h .table; stats = statsNumbers (h .stats) }
 
 abbrev pub heldIn : Slices → Held
 heldIn h = record { dots = h .dots; table = h .table; stats = statsIn (h .stats) }
@@ -176,3 +178,31 @@ unfoldable pub readOver : (bytes psf gray dots measures : List ℕ) → Outcome 
 readOver bytes psf gray dots measures =
     unless (firstOf (5 when not (eqb (length measures) 5) ∷ [])) (record { psf = psf; gray = gray; dots = dots })
     (readCall bytes psf gray dots)
+
+-- ---- the check of a filed sheet
+-- its verdict in numbers: the figure as filed, E by the sum, whether they agree, whether the ledger fits, whether it is
+-- at rest (1 or 0, or the number of a start's refusal negated), and the cells
+abbrev pub verdictSize : ℕ
+verdictSize = 6
+
+abbrev pub restNumber : Resting → ℤ
+restNumber Rests = pos 1
+restNumber Lowers = pos 0
+restNumber (Unstarted n) = pos 0 -ℤ pos n
+
+abbrev pub verdictNumbers : Verdict → List ℤ
+verdictNumbers v =
+    v .filed
+    ∷ v .squared
+    ∷ pick (v .figure) (pos 1) (pos 0)
+    ∷ pick (v .ledger) (pos 1) (pos 0)
+    ∷ restNumber (v .rest)
+    ∷ pos (cellsOf (v .measures))
+    ∷ []
+
+-- checking into a slice of numbers: 5 where there are not six, before all else
+unfoldable pub checkOver : (bytes psf gray dots : List ℕ) (table verdict : List ℤ) → Outcome Verdict CheckBuffers
+checkOver bytes psf gray dots table verdict =
+    unless (firstOf (5 when not (eqb (length verdict) verdictSize) ∷ []))
+    (record { psf = psf; gray = gray; dots = dots; table = table })
+    (checkCall bytes psf gray dots table)

@@ -2,7 +2,7 @@
 -- they say together, and 21, which compares them with the plate.
 use mathlib.Core.Bool.{Bool, false, _||_}
 use mathlib.Core.List.{List, [], _∷_}
-use Prim.Native.Nat.{ℕ, _+_, _^_}
+use Prim.Native.Nat.{ℕ, _+_, _-_, _^_}
 use lib.Dec.{ltb}
 use lib.IntN.{ℤ, pos, negsuc, _+ℤ_, _-ℤ_, _*ℤ_}
 use lib.Signed.{ltZ}
@@ -48,6 +48,11 @@ changes f = f .on + f .off + f .swaps
 -- the dots that are to be on the plate: dots at the start + on - off
 abbrev pub ledgerDots : Figures → ℤ
 ledgerDots f = pos (f .«start_dots») +ℤ pos (f .on) -ℤ pos (f .off)
+
+-- a count: a number below 0 is none, and stands for the greatest of 64 bits, which 21 refuses
+abbrev pub countOf : ℤ → ℕ
+countOf (pos n) = n
+countOf (negsuc n) = 2 ^ 64 - 1
 
 -- the fall: E at the start - E now
 abbrev pub fallOf : Stats → ℤ

@@ -27,6 +27,11 @@ pub mod SheetRefusal
 pub mod Format
 pub mod SheetCalls
 pub mod Program
+-- the filed sheet, which the program prints, and its check
+pub mod Grammar
+pub mod Filed
+pub mod FiledCalls
+pub mod FiledExamples
 -- Pictures: plates and shading as Netpbm files (02, C-11)
 pub mod Netpbm
 pub mod PictureHeader
@@ -39,4 +44,5 @@ pub mod Examples
 -- what is promised
 pub mod ProgramPromises
 pub mod PicturePromises
+pub mod FiledPromises
 pub mod Promises

@@ -8,6 +8,7 @@ use Rattle.model.specs.declared.ConvergeResult.{ConvergeResult}
 use Rattle.model.specs.declared.Measures.{Measures}
 use Rattle.model.specs.declared.Stats.{Stats}
 use Rattle.model.specs.Basic.{pick}
+use Rattle.model.specs.Error.{Target, targetFor}
 use Rattle.model.specs.Calls.{Reply, result, refused, Buffers, startCall, convergeCall}
 use Rattle.model.specs.Text.{bytes, digits}
 use Rattle.model.specs.Sheet.{Sheet, cellsOf, row, sheetText}
@@ -24,15 +25,22 @@ whole (pos n) = n
 whole (negsuc n) = 0
 
 -- the two ledger lines: E at the start, E at the end, the three counts, the scans
+abbrev pub figuresName : List ℕ
+figuresName = bytes "before after on off swaps scans\n"
+
 unfoldable pub figuresText : (before after on off swaps scans : ℕ) → List ℕ
 figuresText before after on off swaps scans =
-    bytes "before after on off swaps scans\n" ++ row (before ∷ after ∷ on ∷ off ∷ swaps ∷ scans ∷ [])
+    figuresName ++ row (before ∷ after ∷ on ∷ off ∷ swaps ∷ scans ∷ [])
 
 abbrev pub statsText : ConvergeResult → List ℕ
 statsText r =
     let s = r .stats in
     let f = s .figures in
     figuresText (whole (f .«start_error»)) (whole (s .error)) (f .on) (f .off) (f .swaps) (r .scans)
+
+-- the plate that a sheet is held against
+abbrev pub sheetTarget : Sheet → Target
+sheetTarget s = targetFor (s .measures) (s .psf) (s .gray)
 
 -- what is printed of a sheet: it is started, then converges (01: settles)
 module _ (m : Measures) (psf gray : List ℕ) where

@@ -8,15 +8,15 @@ use lib.IntN.{pos}
 use lib.ListN.{length}
 use Rattle.model.specs.declared.ConvergeResult.{ConvergeResult}
 use Rattle.model.specs.Psf.{total}
-use Rattle.model.specs.Error.{Target, targetFor, filteredErrors, squaredError}
+use Rattle.model.specs.Error.{filteredErrors, squaredError}
 use Rattle.model.specs.Reference.{Performed}
 use Rattle.model.specs.Scan.{converge}
 use Rattle.model.specs.Screen.{startDots}
 use Rattle.model.specs.Lists.{begin, Rest}
 use Rattle.model.specs.Sheet.{Sheet, cellsOf, sheetText, Valid}
-use Rattle.model.specs.SheetRefusal.{Leftmost}
+use Rattle.model.specs.SheetRefusal.{Draws, Leftmost}
 use Rattle.model.specs.SheetCalls.{writtenSheet}
-use Rattle.model.specs.Program.{refusedText, figuresText, handedDots, output}
+use Rattle.model.specs.Program.{refusedText, figuresText, handedDots, sheetTarget, output}
 
 -- ---- what it is handed
 -- the text of this sheet, which has at most 4,096 cells
@@ -36,7 +36,7 @@ pub data ProgramRefuses (input : List ℕ) : (n o : ℕ) → Type 0 where
   -- 13 the input is longer than 32,768 bytes, before all else
   tooLong : 32768 < length input → ProgramRefuses input 13 0
   -- 10, 11 or 12 at its place, the leftmost, the buffers holding 4,096 cells
-  unread : {n o : ℕ} → length input ≤ 32768 → Leftmost input 49 4096 4096 n o → ProgramRefuses input n o
+  unread : {n o : ℕ} → length input ≤ 32768 → Leftmost (Draws input 49 4096 4096) n o → ProgramRefuses input n o
   -- what the start refuses of the sheet that was read
   unstarted : {s : Sheet} {n : ℕ} → length input ≤ 32768 → IsSheet input s → StartRefuses s n
       → ProgramRefuses input n 0
@@ -46,10 +46,7 @@ abbrev pub Unrefused : List ℕ → Type 0
 Unrefused input = (n o : ℕ) → ProgramRefuses input n o → ⊥
 
 -- ---- a sheet with its figures
--- the plate that a sheet is held against, and the dots of its start
-abbrev pub sheetTarget : Sheet → Target
-sheetTarget s = targetFor (s .measures) (s .psf) (s .gray)
-
+-- the dots of its start
 abbrev pub firstDots : Sheet → List ℕ
 firstDots s = startDots (s .measures) (s .gray) (handedDots s)
 

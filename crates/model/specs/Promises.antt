@@ -39,7 +39,8 @@ use Rattle.model.specs.Format.{readSheet}
 use Rattle.model.specs.SheetCalls.{withGiven, writtenSheet, readCall, writeCall}
 use Rattle.model.specs.ProgramPromises.{ProgramPromises}
 use Rattle.model.specs.PicturePromises.{PicturePromises}
-use Rattle.model.specs.Interface.{statsSize, numbers, statsIn, startOver, toggleOver, swapOver, Told}
+use Rattle.model.specs.FiledPromises.{FiledPromises}
+use Rattle.model.specs.Interface.{statsSize, statsNumbers, statsIn, startOver, toggleOver, swapOver, Told}
 use Rattle.model.specs.Interface.{Slices, slicesOf, heldIn, callOver, runOver}
 use Rattle.model.specs.Examples.{Examples, OneSided}
 
@@ -111,13 +112,13 @@ module _ (t : Target) (dots : List ℕ) where
 -- attempts: what one that is not refused was handed, answers and leaves
 module _ (m : Measures) (psf gray dots : List ℕ) (table : List ℤ) (s : Stats) where
   -- accepted exactly when the change is below 0, and then by 255 at least; declined, nothing changes
-  abbrev pub Verdict : Move → Buffers → Tried → Type 0
-  Verdict v left (accepted s′ d) =
+  abbrev pub Weighed : Move → Buffers → Tried → Type 0
+  Weighed v left (accepted s′ d) =
       (d ≡ change (targetFor m psf gray) dots v)
       × (d ≤ℤ negℤ (pos 255))
       × (s′ ≡ counted s d (v .raises))
       × (left .dots ≡ made dots (v .sets))
-  Verdict v left (declined d) =
+  Weighed v left (declined d) =
       (d ≡ change (targetFor m psf gray) dots v) × (pos 0 ≤ℤ d) × (left .dots ≡ dots) × (left .table ≡ table)
 
   pub record Tries (v : Move) (answer : Tried) (left : Buffers) : Type 0 where
@@ -130,7 +131,7 @@ module _ (m : Measures) (psf gray dots : List ℕ) (table : List ℤ) (s : Stats
     -- the answer and the dots are those of the reference, which has no table
     pub answer-is-reference : answer ≡ attempt (targetFor m psf gray) (reference dots s) v .answer
     pub dots-are-reference : left .dots ≡ attempt (targetFor m psf gray) (reference dots s) v .after .dots
-    pub verdict : Verdict v left answer
+    pub weighed : Weighed v left answer
     -- no later call refuses what is left: neither 1 to 7 nor 20 nor 21 is drawn
     pub is-accepted : laterRefusal m psf gray (left .dots) (left .table) (latest s (result (tried answer))) ≡ 0
 
@@ -286,8 +287,8 @@ module _ (b : List ℕ) (p g d : ℕ) where
     -- comes first at an equal place
     pub refused-is-leftmost : (n o : ℕ)
         → (readSheet b p g d .refusal ≡ n) × (n ≡ 0 → ⊥) × (readSheet b p g d .at ≡ o)
-        → Leftmost b p g d n o
-    pub leftmost-is-refused : (n o : ℕ) → Leftmost b p g d n o
+        → Leftmost (Draws b p g d) n o
+    pub leftmost-is-refused : (n o : ℕ) → Leftmost (Draws b p g d) n o
         → (readSheet b p g d .refusal ≡ n) × (n ≡ 0 → ⊥) × (readSheet b p g d .at ≡ o)
     -- a sheet that is read draws nothing anywhere
     pub read-sheet-draws-nothing : readSheet b p g d .refusal ≡ 0 → (n o : ℕ) → Draws b p g d n o → ⊥
@@ -312,7 +313,7 @@ module _ (m : Measures) (psf gray dots out : List ℕ) (k : ℕ) where
 module _ (m : Measures) (psf gray : List ℕ) where
   pub record InterfacePromises : Type 0 where
     -- a ledger that was stored is read back as it was
-    pub stored-stats-read-back : (s : Stats) → statsIn (numbers s) ≡ s
+    pub stored-stats-read-back : (s : Stats) → statsIn (statsNumbers s) ≡ s
     -- over a slice of six numbers a start and each later call is that of document 01, refused alike
     pub start-takes-its-slice : (dots : List ℕ) (table stats : List ℤ) → length stats ≡ statsSize
         → startOver m psf gray dots table stats ≡ startCall m psf gray dots table
@@ -349,6 +350,7 @@ pub record Promises : Type 0 where
       → WritingPromises m psf gray dots out k
   pub program-promises : (input : List ℕ) → ProgramPromises input
   pub picture-promises : PicturePromises
+  pub filed-promises : FiledPromises
   pub interface-promises : (m : Measures) (psf gray : List ℕ) → InterfacePromises m psf gray
   -- the starred examples of document 01, and its worked example as the program prints it
   pub examples-hold : Examples

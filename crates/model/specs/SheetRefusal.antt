@@ -95,7 +95,7 @@ Draws b psf gray dots n at =
     ((n ≡ 10) × Stops b at) ⊎ ((n ≡ 11) × Outside b at) ⊎ ((n ≡ 12) × Short b psf gray dots at)
 
 -- the one that decides: nothing is drawn to the left of it, and 12 comes first at an equal place
-pub record Leftmost (b : List ℕ) (psf gray dots refusal at : ℕ) : Type 0 where
-  pub drawn : Draws b psf gray dots refusal at
-  pub leftmost : (n o : ℕ) → Draws b psf gray dots n o → at ≤ o
-  pub twelve-first : Draws b psf gray dots 12 at → refusal ≡ 12
+pub record Leftmost (draws : (refusal at : ℕ) → Type 0) (refusal at : ℕ) : Type 0 where
+  pub drawn : draws refusal at
+  pub leftmost : (n o : ℕ) → draws n o → at ≤ o
+  pub twelve-first : draws 12 at → refusal ≡ 12

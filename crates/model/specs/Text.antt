@@ -57,9 +57,6 @@ capped = capTo 257
 abbrev pub growTo : (limit value digit : ℕ) → ℕ
 growTo limit v b = capTo limit (v * 10 + (b - 48))
 
-abbrev pub grow : (value digit : ℕ) → ℕ
-grow = growTo 257
-
 -- where the run of letters ends
 abbrev pub wordEnd : ℕ → List ℕ → ℕ
 wordEnd i [] = i
@@ -70,10 +67,11 @@ abbrev pub NoDigit : List ℕ → Type 0
 NoDigit [] = Unit
 NoDigit (x ∷ xs) = isDigit x ≡ false
 
--- the run of digits, with a value before it
-abbrev pub runFrom : (value at : ℕ) → List ℕ → Run
-runFrom v i [] = record { value = v; end = i }
-runFrom v i (x ∷ xs) = pick (isDigit x) (runFrom (grow v x) (i + 1) xs) (record { value = v; end = i })
+-- the run of digits under a limit, with a value before it
+abbrev pub runTo : (limit value at : ℕ) → List ℕ → Run
+runTo limit v i [] = record { value = v; end = i }
+runTo limit v i (x ∷ xs) =
+    pick (isDigit x) (runTo limit (growTo limit v x) (i + 1) xs) (record { value = v; end = i })
 
 abbrev pub step : Item → ℕ → ℕ → Step
 step item at next = record { item = item; at = at; next = next }
@@ -83,13 +81,17 @@ abbrev pub numberStep : (at first : ℕ) → Run → Step
 numberStep at x run =
     pick (eqb x 48 && ltb (at + 1) (run .end)) (step Other (at + 1) (at + 1)) (step (Number (run .value)) at (run .end))
 
-abbrev pub itemFrom : ℕ → List ℕ → Step
-itemFrom at [] = step Other at at
-itemFrom at (x ∷ xs) =
+abbrev pub itemTo : (limit at : ℕ) → List ℕ → Step
+itemTo limit at [] = step Other at at
+itemTo limit at (x ∷ xs) =
     pick (isLetter x) (step Word at (wordEnd at (x ∷ xs)))
-    (pick (isDigit x) (numberStep at x (runFrom 0 at (x ∷ xs)))
+    (pick (isDigit x) (numberStep at x (runTo limit 0 at (x ∷ xs)))
     (pick (eqb x lineEnd) (step LineEnd at (at + 1)) (step Other at at)))
 
--- the item at a place
+-- the item at a place, numbers being read under a limit
+abbrev pub stepTo : (limit : ℕ) → List ℕ → ℕ → Step
+stepTo limit s at = itemTo limit at (drop at s)
+
+-- as document 01 says it
 abbrev pub stepAt : List ℕ → ℕ → Step
-stepAt s at = itemFrom at (drop at s)
+stepAt = stepTo 257

@@ -106,6 +106,32 @@ pub enum Written {
     Refused(u32),
 }
 
+// Whether a filed plate is at rest: no toggle and no swap within reach lowers its squared error, one does, or a start
+// would refuse the sheet with that number.
+pub enum Resting {
+    Rests,
+    Lowers,
+    Unstarted(u32),
+}
+
+// What the check of a filed sheet finds: the squared error as filed and by the sum over the filed dots, whether they
+// agree, whether the ledger fits the dots, and whether they are at rest.
+pub struct Verdict {
+    pub measures: Measures,
+    pub filed: i64,
+    pub squared: i64,
+    pub figure: bool,
+    pub ledger: bool,
+    pub rest: Resting,
+}
+
+// The answer of the check: what it finds, or refused with the number of document 01 and the byte offset, which is 0
+// where there is no place.
+pub enum Checked {
+    Done(Verdict),
+    Refused(u32, usize),
+}
+
 // ---- the types of inner functions, which no public call answers
 
 // What a scan has come to so far: the ledger and the changes that it has accepted.
@@ -154,6 +180,23 @@ pub struct Head {
     pub refusal: u32,
     pub at: usize,
     pub measures: Measures,
+}
+
+// The six figures under a filed sheet, as filed.
+pub struct FiledFigures {
+    pub before: u64,
+    pub after: u64,
+    pub on: u64,
+    pub off: u64,
+    pub swaps: u64,
+    pub scans: u64,
+}
+
+// How far a filed sheet is read, as in `Place`, with its figures.
+pub struct FiledEnd {
+    pub refusal: u32,
+    pub at: usize,
+    pub figures: FiledFigures,
 }
 
 // What is found of a picture's header so far: whether all of it was there, the value of its last number, 0 where it is

@@ -3,20 +3,24 @@
 --   bare-here, bare-past                   where the search for the next of them ends
 --   spaces-more, spaces-stop, spaces-past  white space
 --   number-more, number-stop, number-past  digits
---   field-by                               a number with white space before it
+--   field-by, field-most                   a number with white space before it
 --   end-here, end-past                     the last white space
 use mathlib.Core.Bool.{Bool, true, false, _||_, _&&_}
 use mathlib.Core.List.{List, [], _∷_}
 use mathlib.Core.Path.{_≡_, sym, _∙_}
-use Prim.Native.Nat.{ℕ, _+_, _≤_, _<_}
+use Prim.Native.Nat.{ℕ, _+_, _-_, _*_, _≤_, _<_}
 use native.Mathlib.Numerals.{add-one}
+use native.Mathlib.Omega.{arith}
+use borrow.Author.Tests.{ltb-true}
+use lib.Dec.{ltb}
 use lib.ListN.{length, drop, getD, drop-of-length-le}
 use lib.Seq.{drop-cons}
 use Rattle.model.specs.declared.Found.{Found}
 use Rattle.model.specs.Text.{isDigit, growTo}
 use Rattle.model.specs.Netpbm.{isSpace, opensComment}
-use Rattle.model.specs.PictureHeader.{commenting, glyphs, glyphsAt, found, spacesFrom, numberFrom}
+use Rattle.model.specs.PictureHeader.{Glyph, commenting, glyphs, glyphsAt, found, spacesFrom, numberFrom}
 use Rattle.model.specs.PictureHeader.{numberNext, endNext}
+use Rattle.model.proofs.Basic.{pick-cases}
 use Rattle.picture_header.specs.Bare.{Bare}
 
 -- ---- by the byte at a place
@@ -83,6 +87,25 @@ pub field-by : (s : List ℕ) (f : Found) {gap n : Found} → gap ≡ spacesFrom
     → numberNext s f ≡ found (f .some && (gap .some && n .some)) (n .value) (n .at)
 unfolding numberNext
 field-by s f e e′ = rw (← e, ← e′)
+
+-- none is above 65536
+grown-most : (v b : ℕ) → growTo 65536 v b ≤ 65536
+grown-most v b =
+    let n = v * 10 + (b - 48) in
+    pick-cases (λ (k : ℕ). k ≤ 65536) (ltb n 65536) (λ t. omega (arith, ltb-true n 65536 t)) (λ t. omega arith)
+
+number-most : (some : Bool) (v at : ℕ) (l : List Glyph) → v ≤ 65536 → numberFrom some v at l .value ≤ 65536
+unfolding numberFrom
+number-most some v at [] h = h
+number-most some v at (g ∷ l) h =
+    pick-cases (λ (f : Found). f .value ≤ 65536) (isDigit (g .byte))
+    (λ t. number-most true (growTo 65536 v (g .byte)) (g .next) l (grown-most v (g .byte))) (λ t. h)
+
+pub field-most : (s : List ℕ) (f : Found) → numberNext s f .value ≤ 65536
+unfolding numberNext
+field-most s f =
+    let at = spacesFrom false (f .at) (glyphsAt s (f .at)) .at in
+    number-most false 0 at (glyphsAt s at) (omega arith)
 
 -- ---- the last white space
 module _ {s : List ℕ} {next : ℕ} (f : Found) (b : Bare s (f .at) next) where

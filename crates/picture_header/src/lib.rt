@@ -76,7 +76,6 @@ fn skip_spaces(s: &[u8], at: usize) -> Found
 // the digits from a place on
 fn read_number(s: &[u8], at: usize) -> Found
     ensures { λ r. ⌜ r ≡ numberFrom false 0 at (glyphsAt (now (s .entry)) at) ⌝ }
-    ensures { λ r. ⌜ r .value ≤ 65536 ⌝ }
 {
     let mut some = false;
     let mut value: usize = 0;
@@ -106,7 +105,6 @@ fn read_number(s: &[u8], at: usize) -> Found
 // a number with white space before it, after what was found
 fn next_number(s: &[u8], f: Found) -> Found
     ensures { λ r. ⌜ r ≡ numberNext (now (s .entry)) f ⌝ }
-    ensures { λ r. ⌜ r .value ≤ 65536 ⌝ }
 {
     let gap = skip_spaces(s, f.at);
     let number = read_number(s, gap.at);

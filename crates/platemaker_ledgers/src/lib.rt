@@ -3,7 +3,7 @@
 ghost use mathlib.Core.Path.{_≡_};
 ghost use lib.ListN.{length};
 ghost use Rattle.model.specs.Calls.{started, attempted, scanned, converged};
-ghost use Rattle.model.specs.Interface.{status, after, statsSize, numbers};
+ghost use Rattle.model.specs.Interface.{status, after, statsSize, statsNumbers};
 ghost use Rattle.model.specs.Interface.{changeOf, triedNumbers, scanNumbers, convergeNumbers};
 ghost use Rattle.platemaker_numbers.specs.Storable.{Storable, Holds, TriedStorable};
 use model::Attempt;
@@ -17,7 +17,7 @@ pub fn lay_start(answer: Started, stats: &mut [i64]) -> u32
     requires { ⌜ length (now stats) ≡ statsSize ⌝ }
     requires { ⌜ Holds Storable (started answer) ⌝ }
     ensures { λ r. ⌜ (r ≡ status (started answer))
-        × (now (stats .exit) ≡ after numbers (now (stats .entry)) (started answer)) ⌝ }
+        × (now (stats .exit) ≡ after statsNumbers (now (stats .entry)) (started answer)) ⌝ }
 {
     match answer {
         Started::Fresh(new) => {

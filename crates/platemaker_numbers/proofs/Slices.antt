@@ -18,7 +18,8 @@ use mir.Val.{toZ, ofZ, hbits}
 use Rattle.model.specs.declared.Measures.{Measures}
 use Rattle.model.specs.declared.Stats.{Stats}
 use Rattle.model.specs.Refusal.{firstOf, badMeasures}
-use Rattle.model.specs.Interface.{statsSize, numbers, countOf, statsIn}
+use Rattle.model.specs.Interface.{statsSize, statsNumbers, statsIn}
+use Rattle.model.specs.Ledger.{countOf}
 use Rattle.model.specs.Interface.{badStatsLength, sliceRefusal}
 use Rattle.model.proofs.Refusal.{by-first, by-second}
 
@@ -43,8 +44,8 @@ module _ (l : List ℤ) (s : Stats) {start error dots on off swaps : ℤ} where
       → on ≡ pos (s .figures .on)
       → off ≡ pos (s .figures .off)
       → swaps ≡ pos (s .figures .swaps)
-      → sets l 0 (start ∷ error ∷ dots ∷ on ∷ off ∷ swaps ∷ []) ≡ numbers s
-  numbers-stored e a b c d f g = rw (a, b, c, d, f, g) (all-stored (numbers s) l e)
+      → sets l 0 (start ∷ error ∷ dots ∷ on ∷ off ∷ swaps ∷ []) ≡ statsNumbers s
+  numbers-stored e a b c d f g = rw (a, b, c, d, f, g) (all-stored (statsNumbers s) l e)
 
 -- and out of it: the number at an index, as it is held
 module _ (l : List ℤ) where

@@ -1,7 +1,8 @@
 // Ledgers and measures in slices of numbers, for the C interface.
 ghost use mathlib.Core.Path.{_≡_};
 ghost use lib.ListN.{length};
-ghost use Rattle.model.specs.Interface.{statsSize, numbers, countOf, statsIn, sliceRefusal};
+ghost use Rattle.model.specs.Interface.{statsSize, statsNumbers, statsIn, sliceRefusal};
+ghost use Rattle.model.specs.Ledger.{countOf};
 ghost use Rattle.model.specs.Sheet.{valuesOf};
 ghost use Rattle.platemaker_numbers.specs.Storable.{Storable};
 use judge_parts::judge_all_measures;
@@ -40,7 +41,7 @@ pub fn stats_of(numbers: &[i64]) -> Stats
 pub fn store_stats(out: &mut [i64], stats: Stats)
     requires { ⌜ length (now out) ≡ statsSize ⌝ }
     requires { ⌜ Storable stats ⌝ }
-    ensures { λ _. ⌜ now (out .exit) ≡ numbers stats ⌝ }
+    ensures { λ _. ⌜ now (out .exit) ≡ statsNumbers stats ⌝ }
 {
     let start_error = stats.figures.start_error;
     let error = stats.error;

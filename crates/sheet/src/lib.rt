@@ -23,7 +23,7 @@ pub fn read_sheet(bytes: &[u8], psf: &mut [u8], gray: &mut [u8], dots: &mut [u8]
     ensures { λ _. ⌜ now (dots .exit) ≡ readCall (now (bytes .entry))
         (now (psf .entry)) (now (gray .entry)) (now (dots .entry)) .left .dots ⌝ }
 {
-    let head = read_head(bytes);
+    let head = read_head(bytes, 0);
     if head.refusal != 0 {
         return Reading::Refused(head.refusal, head.at);
     }

@@ -1,2 +1,3 @@
 -- What the proofs of the fields share.
 pub mod Parts
+pub mod Fields

@@ -25,9 +25,9 @@ use Rattle.model.specs.declared.Place.{Place}
 use Rattle.model.specs.declared.Run.{Run}
 use Rattle.model.specs.declared.Step.{Step}
 use Rattle.model.specs.Basic.{pick}
-use Rattle.model.specs.Text.{isLetter, isDigit, step, runFrom, stepAt}
+use Rattle.model.specs.Text.{isLetter, isDigit, step, runTo, stepTo, stepAt}
 use Rattle.model.specs.Sheet.{endOf}
-use Rattle.model.specs.Format.{Part, fixed, grid, block, isAt, place, fixedAt, field, fieldBy, fieldAt}
+use Rattle.model.specs.Format.{Part, fixed, grid, block, isAt, place, fixedAt, field, fieldBy, limitOf, fieldAt}
 use Rattle.model.specs.Format.{Parsed, parsed, onFixed, onField, parse, placeOf, parseNext}
 use Rattle.model.proofs.Basic.{pick-cases}
 use Rattle.model.proofs.Text.{and-true, digit-range}
@@ -119,7 +119,7 @@ word-not b s at l n =
     refuted (isAt b s at)
     (λ e.
     let (h, q) = is-at b s at e in
-    n (ap (λ (r : Step). r .item) (item-word s at h (rw q l))))
+    n (ap (λ (r : Step). r .item) (item-word s at h 257 (rw q l))))
 
 pub name-off : (name s : List ℕ) (at end : ℕ) → (0 < length name) × (isLetter (getD name 0 0) ≡ true) → (r : Step)
     → r ≡ stepAt s at → OneOf (1 ∷ 2 ∷ 3 ∷ []) (tagOf the-type (r .item))
@@ -170,28 +170,28 @@ line-end s at = go (ltb at (length s)) refl
     by h true l b u d w =
         let r = and-true (leb 97 x) (leb x 122) l in
         let far = leb-true 97 x (r .0) in
-        rw (item-word s at h l, ne-eqb x 10 (λ e. omega arith))
+        rw (item-word s at h 257 l, ne-eqb x 10 (λ e. omega arith))
     by h false l true u d w =
         let r = digit-range x u in
         let other = ne-eqb x 10 (λ e. omega (arith, r)) in
-        rw (item-number s at h l u _ refl, other) (number (eqb x 48 && ltb (at + 1) (run .end)))
+        rw (item-number s at h 257 l u _ refl, other) (number (eqb x 48 && ltb (at + 1) (run .end)))
       where
         run : Run
-        run = runFrom 0 at (drop at s)
+        run = runTo 257 0 at (drop at s)
 
         number : (c : Bool)
             → isLineEnd (pick c (step Other (at + 1) (at + 1)) (step (Number (run .value)) at (run .end)) .item) ≡ false
         number true = refl
         number false = refl
-    by h false l false u true w = rw (item-other s at h l u, w)
-    by h false l false u false w = rw (item-other s at h l u, w)
+    by h false l false u true w = rw (item-other s at h 257 l u, w)
+    by h false l false u false w = rw (item-other s at h 257 l u, w)
 
     go : (c : Bool) → ltb at (length s) ≡ c → isLineEnd (stepAt s at .item) ≡ isAt 10 s at
     go true t = rw t (by (ltb-true at (length s) t) (isLetter x) refl (isDigit x) refl (eqb x 10) refl)
     go false t = rw (drop-of-length-le s (ltb-false at (length s) t), t)
 
 -- ---- a number, by the tests
-module _ (lo hi end : ℕ) (s : List ℕ) (at : ℕ) (r : Step) (e : r ≡ stepAt s at) where
+module _ (lo hi end : ℕ) (s : List ℕ) (at : ℕ) (r : Step) (e : r ≡ stepTo (limitOf hi) s at) where
   field-of : (i : Item) → r .item ≡ i → fieldBy lo hi end s i (r .at) (r .next) ≡ fieldAt lo hi end s at
   unfolding fieldAt
   field-of i f = rw (← e, f)
@@ -222,12 +222,15 @@ module _ (lo hi end : ℕ) (s : List ℕ) (at : ℕ) (r : Step) (e : r ≡ stepA
 -- no value is above its field: a refused one is 0
 pub value-most : (lo hi end : ℕ) (s : List ℕ) (at : ℕ) → fieldAt lo hi end s at .value ≤ hi
 unfolding fieldAt
-value-most lo hi end s at = go (stepAt s at .item)
+value-most lo hi end s at = go (read .item)
   where
-    next : ℕ
-    next = stepAt s at .next
+    read : Step
+    read = stepTo (limitOf hi) s at
 
-    go : (i : Item) → fieldBy lo hi end s i (stepAt s at .at) next .value ≤ hi
+    next : ℕ
+    next = read .next
+
+    go : (i : Item) → fieldBy lo hi end s i (read .at) next .value ≤ hi
     go (Number v) =
         pick-cases (λ (f : Field). f .value ≤ hi) (leb lo v && leb v hi)
         (λ t.

@@ -3,17 +3,19 @@
 ghost use mathlib.Core.Bool.{true};
 ghost use mathlib.Core.List.{[], _∷_, _++_};
 ghost use mathlib.Core.Path.{_≡_};
-ghost use Prim.Native.Nat.{_≤_, _<_};
+ghost use Prim.Native.Nat.{_^_, _≤_, _<_};
 ghost use lib.ListN.{length, getD};
 ghost use lib.Seq.{sets};
-ghost use Rattle.model.specs.Text.{isLetter};
+ghost use Rattle.model.specs.Text.{isLetter, stepTo};
 ghost use Rattle.model.specs.Sheet.{endOf};
 ghost use Rattle.model.specs.Format.{grid, block, isAt, fixedAt, fieldAt, parse, placeOf};
-ghost use Rattle.model.specs.Format.{fixed, parseNext, fieldNext};
+ghost use Rattle.model.specs.Format.{fixed, parseNext, fieldNext, limitOf};
 use model::Field;
 use model::Item;
 use model::Place;
+use model::Step;
 use text_reader::step_at;
+use text_reader::step_to;
 
 fn is_at(s: &[u8], at: usize, b: u8) -> bool
     ensures { λ r. ⌜ r ≡ isAt b (now (s .entry)) at ⌝ }
@@ -95,11 +97,23 @@ pub fn next_name(s: &[u8], done: Place, name: &[u8], end: u8) -> Place
     read_name(s, done.at, name, end)
 }
 
+// the item at a place, its number read under the limit of a field that ends at hi
+fn step_in(s: &[u8], at: usize, hi: usize) -> Step
+    requires { ⌜ hi < 2 ^ 63 ⌝ }
+    ensures { λ r. ⌜ r ≡ stepTo (limitOf hi) (now (s .entry)) at ⌝ }
+{
+    if hi <= 256 {
+        return step_at(s, at);
+    }
+    step_to(hi + 1, s, at)
+}
+
 // a number from lo to hi and the byte that ends it
 fn read_field(s: &[u8], at: usize, lo: usize, hi: usize, end: u8) -> Field
+    requires { ⌜ hi < 2 ^ 63 ⌝ }
     ensures { λ r. ⌜ r ≡ fieldAt lo hi end (now (s .entry)) at ⌝ }
 {
-    let step = step_at(s, at);
+    let step = step_in(s, at, hi);
     let item = step.item;
     let next = step.next;
     let from = step.at;
@@ -142,6 +156,7 @@ fn read_field(s: &[u8], at: usize, lo: usize, hi: usize, end: u8) -> Field
 
 // a number after a number; what was refused stays refused
 pub fn next_field(s: &[u8], done: Field, lo: usize, hi: usize, end: u8) -> Field
+    requires { ⌜ hi < 2 ^ 63 ⌝ }
     ensures { λ r. ⌜ r ≡ fieldNext lo hi end (now (s .entry)) done ⌝ }
 {
     if done.refusal != 0 {
@@ -164,7 +179,7 @@ pub fn end_of(w: usize, i: usize) -> u8
 
 // judges n numbers in rows of w
 fn judge_grid(s: &[u8], at: usize, w: usize, n: usize, hi: usize) -> Place
-    requires { ⌜ (1 ≤ w) × (n ≤ 65536) ⌝ }
+    requires { ⌜ (1 ≤ w) × (n ≤ 65536) × (hi < 256) ⌝ }
     ensures { λ r. ⌜ r ≡ placeOf (parse (grid w hi 0 n) (now (s .entry)) at) ⌝ }
 {
     let mut i: usize = 0;
@@ -207,7 +222,7 @@ fn store_grid(s: &[u8], at: usize, w: usize, n: usize, hi: usize, out: &mut [u8]
 
 // Judges a name and its rows after what was read; what was refused stays refused.
 pub fn judge_block(s: &[u8], done: Place, name: &[u8], w: usize, n: usize, hi: usize) -> Place
-    requires { ⌜ (1 ≤ w) × (n ≤ 65536) ⌝ }
+    requires { ⌜ (1 ≤ w) × (n ≤ 65536) × (hi < 256) ⌝ }
     requires { ⌜ (0 < length (now name)) × (isLetter (getD (now name) 0 0) ≡ true) ⌝ }
     ensures { λ r. ⌜ r ≡ parseNext (block (now (name .entry) ++ (10 ∷ [])) w n hi) (now (s .entry)) done ⌝ }
 {

@@ -1,8 +1,9 @@
 -- What follows line 2.
 --   psf-short, gray-short, dots-room, all-room  whether there is room, by the tests
 --   psf-block, gray-block, dots-block, no-dots  the blocks by their names
---   body-end                                    they are judged one after the other
---   judged                                      what the blocks of a sheet that was judged good hold
+--   blocks-place                                they are judged one after the other
+--   ended-good, first-good, blocks-good         where all is good, so is what stands before its end, or first in it
+--   judged                                      what blocks that were judged good hold
 use mathlib.Core.Bool.{Bool, true, false}
 use mathlib.Core.List.{List, [], _++_}
 use mathlib.Core.Path.{_≡_, refl, sym, _∙_, ap}
@@ -18,6 +19,7 @@ use Rattle.model.specs.Text.{bytes}
 use Rattle.model.specs.Sheet.{sideOf, entriesOf, cellsOf, dotsIn, psfName, grayName, dotsName, roomFor}
 use Rattle.model.specs.Format.{Part, block, psfBlock, grayBlock, dotsBlock, body, place, Parsed, parse, placeOf}
 use Rattle.model.specs.Format.{parseNext, ended, sheetOf, bodyEnd}
+use Rattle.model.proofs.Basic.{zero-cases}
 use Rattle.model.proofs.Text.{and-true}
 use Rattle.model.proofs.Format.{parse-append, parse-refused, values-length, numbers-grid}
 use Rattle.sheet_fields.proofs.Parts.{next-on, next-append}
@@ -74,30 +76,31 @@ next-none s p = go (eqb (p .refusal) 0) refl
     go true t = rw t (ap (λ (n : ℕ). place n (p .at)) (eqb-true (p .refusal) 0 t))
     go false t = rw t
 
-pub body-end : (m : Measures) (s : List ℕ) (at : ℕ) (p g d e : Place) → p ≡ parseNext (psfBlock m) s (place 0 at)
-    → g ≡ parseNext (grayBlock m) s p → d ≡ parseNext (dotsBlock m) s g → e ≡ ended s d → e ≡ bodyEnd m s at
-unfolding bodyEnd body
-body-end m s at p g d e ep eg ed ee =
+pub blocks-place : (m : Measures) (s : List ℕ) (at : ℕ) (p g d : Place) → p ≡ parseNext (psfBlock m) s (place 0 at)
+    → g ≡ parseNext (grayBlock m) s p → d ≡ parseNext (dotsBlock m) s g → d ≡ placeOf (parse (body m) s at)
+unfolding body
+blocks-place m s at p g d ep eg ed =
     let start = place 0 at in
     let after = parseNext (psfBlock m) s start in
     let all : placeOf (parse (body m) s at) ≡ parseNext (dotsBlock m) s (parseNext (grayBlock m) s after) =
     sym (next-on (body m) s start refl)
     ∙ next-append (psfBlock m) (grayBlock m ++ dotsBlock m) s start
     ∙ next-append (grayBlock m) (dotsBlock m) s after in
-    ee ∙ ap (ended s)
-    (ed ∙ ap (parseNext (dotsBlock m) s) (eg ∙ ap (parseNext (grayBlock m) s) ep) ∙ sym all)
+    ed ∙ ap (parseNext (dotsBlock m) s) (eg ∙ ap (parseNext (grayBlock m) s) ep) ∙ sym all
 
 -- ---- what was judged good
-ended-good : (s : List ℕ) (p : Place) → ended s p .refusal ≡ 0 → p .refusal ≡ 0
-ended-good s p z = go (eqb (p .refusal) 0) refl
-  where
-    go : (b : Bool) → eqb (p .refusal) 0 ≡ b → p .refusal ≡ 0
-    go true t = eqb-true (p .refusal) 0 t
-    go false t = rw t at z
+pub ended-good : (s : List ℕ) (p : Place) → ended s p .refusal ≡ 0 → p .refusal ≡ 0
+ended-good s p =
+    zero-cases (λ (e : Place). e .refusal ≡ 0 → p .refusal ≡ 0) (p .refusal) (λ y z. y) (λ y z. z)
+
+pub blocks-good : (m : Measures) (s : List ℕ) (at : ℕ) → bodyEnd m s at .refusal ≡ 0
+    → parse (body m) s at .refusal ≡ 0
+unfolding bodyEnd
+blocks-good m s at = ended-good s (placeOf (parse (body m) s at))
 
 -- parts after parts
 module _ (a b : List Part) (s : List ℕ) (at : ℕ) (z : parse (a ++ b) s at .refusal ≡ 0) where
-  first-good : parse a s at .refusal ≡ 0
+  pub first-good : parse a s at .refusal ≡ 0
   first-good = go (eqb (parse a s at .refusal) 0) refl
     where
       go : (c : Bool) → eqb (parse a s at .refusal) 0 ≡ c → parse a s at .refusal ≡ 0
@@ -131,13 +134,12 @@ pub record Judged (m : Measures) (s : List ℕ) (at : ℕ) : Type 0 where
   pub gray : grayAt m s at .values ≡ sheetOf m (parse (body m) s at .values) .gray
   pub dots : dotsAt m s at .values ≡ sheetOf m (parse (body m) s at .values) .dots
 
-pub judged : (m : Measures) (s : List ℕ) (at : ℕ) → bodyEnd m s at .refusal ≡ 0 → Judged m s at
-unfolding bodyEnd body
-judged m s at z =
+pub judged : (m : Measures) (s : List ℕ) (at : ℕ) → parse (body m) s at .refusal ≡ 0 → Judged m s at
+unfolding body
+judged m s at good =
     let n = entriesOf m in
     let k = cellsOf m in
     let rest = grayBlock m ++ dotsBlock m in
-    let good = ended-good s (placeOf (parse (body m) s at)) z in
     let p = first-good (psfBlock m) rest s at good in
     let others = then-good (psfBlock m) rest s at good in
     let o = psfAt m s at .at in

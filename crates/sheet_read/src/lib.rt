@@ -5,7 +5,8 @@ ghost use Prim.Native.Nat.{_≤_};
 ghost use lib.ListN.{length};
 ghost use lib.Seq.{sets};
 ghost use Rattle.model.specs.Sheet.{sideOf, entriesOf, cellsOf, dotsIn, names, InRange, roomFor};
-ghost use Rattle.model.specs.Format.{fixedAt, dotsBlock, body, parse, parseNext, headOf, sheetOf, bodyEnd, ended};
+ghost use Rattle.model.specs.Format.{headFrom, dotsBlock, body, fixedAt, parse, placeOf, parseNext, ended};
+ghost use Rattle.model.specs.Format.{headBy, sheetOf, bodyEnd};
 use model::Field;
 use model::Head;
 use model::Measures;
@@ -26,9 +27,9 @@ fn read_names(s: &[u8]) -> Place
     next_name(s, reach, b"start", 10)
 }
 
-// Lines 1 and 2.
-pub fn read_head(s: &[u8]) -> Head
-    ensures { λ r. ⌜ r ≡ headOf (now (s .entry)) ⌝ }
+// Lines 1 and 2, the kind of start from the least allowed on.
+pub fn read_head(s: &[u8], least: usize) -> Head
+    ensures { λ r. ⌜ r ≡ headBy (headFrom least) (now (s .entry)) ⌝ }
 {
     let line = read_names(s);
     let names = Field {
@@ -40,7 +41,7 @@ pub fn read_head(s: &[u8]) -> Head
     let height = next_field(s, width, 1, 256, 32);
     let radius = next_field(s, height, 0, 3, 32);
     let reach = next_field(s, radius, 0, 6, 32);
-    let start = next_field(s, reach, 0, 2, 10);
+    let start = next_field(s, reach, least, 2, 10);
     let measures = Measures {
         width: width.value,
         height: height.value,
@@ -64,7 +65,7 @@ pub fn side(m: Measures) -> usize
 }
 
 // how many entries the psf has
-fn entries(m: Measures) -> usize
+pub fn entries(m: Measures) -> usize
     requires { ⌜ InRange m ⌝ }
     ensures { λ r. ⌜ (r ≡ entriesOf m) × (r ≤ 49) ⌝ }
 {
@@ -72,7 +73,7 @@ fn entries(m: Measures) -> usize
     side * side
 }
 
-fn cells(m: Measures) -> usize
+pub fn cells(m: Measures) -> usize
     requires { ⌜ InRange m ⌝ }
     ensures { λ r. ⌜ (r ≡ cellsOf m) × (r ≤ 65536) ⌝ }
 {
@@ -109,7 +110,7 @@ fn judge_dots(s: &[u8], done: Place, m: Measures) -> Place
 }
 
 // nothing follows; what was refused stays refused
-fn judge_end(s: &[u8], done: Place) -> Place
+pub fn judge_end(s: &[u8], done: Place) -> Place
     ensures { λ r. ⌜ r ≡ ended (now (s .entry)) done ⌝ }
 {
     if done.refusal != 0 {
@@ -124,10 +125,10 @@ fn judge_end(s: &[u8], done: Place) -> Place
     }
 }
 
-// Judges what follows line 2.
-pub fn judge_body(s: &[u8], at: usize, m: Measures) -> Place
+// Judges the blocks that follow line 2.
+pub fn judge_blocks(s: &[u8], at: usize, m: Measures) -> Place
     requires { ⌜ InRange m ⌝ }
-    ensures { λ r. ⌜ r ≡ bodyEnd m (now (s .entry)) at ⌝ }
+    ensures { λ r. ⌜ r ≡ placeOf (parse (body m) (now (s .entry)) at) ⌝ }
 {
     let psf = judge_block(
         s,
@@ -138,8 +139,15 @@ pub fn judge_body(s: &[u8], at: usize, m: Measures) -> Place
         255,
     );
     let gray = judge_block(s, psf, b"gray", m.width, cells(m), 255);
-    let dots = judge_dots(s, gray, m);
-    judge_end(s, dots)
+    judge_dots(s, gray, m)
+}
+
+// Judges all that follows line 2 of a sheet.
+pub fn judge_body(s: &[u8], at: usize, m: Measures) -> Place
+    requires { ⌜ InRange m ⌝ }
+    ensures { λ r. ⌜ r ≡ bodyEnd m (now (s .entry)) at ⌝ }
+{
+    judge_end(s, judge_blocks(s, at, m))
 }
 
 // stores the dots that were judged good, with start 2 only
@@ -154,7 +162,7 @@ fn store_dots(s: &[u8], at: usize, m: Measures, dots: &mut [u8])
     }
 }
 
-// Stores what follows line 2, once it was judged good.
+// Stores the blocks that follow line 2, once they were judged good.
 pub fn store_body(
     s: &[u8],
     at: usize,
@@ -164,7 +172,7 @@ pub fn store_body(
     dots: &mut [u8],
 )
     requires { ⌜ InRange m ⌝ }
-    requires { ⌜ bodyEnd m (now s) at .refusal ≡ 0 ⌝ }
+    requires { ⌜ parse (body m) (now s) at .refusal ≡ 0 ⌝ }
     requires { ⌜ roomFor m (length (now psf)) (length (now gray)) (length (now dots)) ≡ true ⌝ }
     ensures { λ _. ⌜ now (psf .exit)
         ≡ sets (now (psf .entry)) 0 (sheetOf m (parse (body m) (now (s .entry)) at .values) .psf) ⌝ }

@@ -16,7 +16,7 @@ use lib.Seq.{drop-cons}
 use Rattle.model.specs.declared.Item.the-variants.{Word, Number, LineEnd, Other}
 use Rattle.model.specs.declared.Run.{Run}
 use Rattle.model.specs.Basic.{pick}
-use Rattle.model.specs.Text.{isLetter, isDigit, grow, wordEnd, runFrom, numberStep, step, stepAt}
+use Rattle.model.specs.Text.{isLetter, isDigit, growTo, wordEnd, runTo, numberStep, step, stepTo}
 
 module _ (s : List ℕ) (i : ℕ) (h : i < length s) where
   pub word-more : isLetter (getD s i 0) ≡ true → wordEnd i (drop i s) ≡ wordEnd (i + 1) (drop (i + 1) s)
@@ -25,23 +25,24 @@ module _ (s : List ℕ) (i : ℕ) (h : i < length s) where
   pub word-stop : isLetter (getD s i 0) ≡ false → wordEnd i (drop i s) ≡ i
   word-stop e = rw (drop-cons s i 0, e)
 
-  pub run-more : (v : ℕ) → isDigit (getD s i 0) ≡ true
-      → runFrom v i (drop i s) ≡ runFrom (grow v (getD s i 0)) (i + 1) (drop (i + 1) s)
-  run-more v e = rw (drop-cons s i 0, e, add-one)
+  pub run-more : (limit v : ℕ) → isDigit (getD s i 0) ≡ true
+      → runTo limit v i (drop i s) ≡ runTo limit (growTo limit v (getD s i 0)) (i + 1) (drop (i + 1) s)
+  run-more limit v e = rw (drop-cons s i 0, e, add-one)
 
-  pub run-stop : (v : ℕ) → isDigit (getD s i 0) ≡ false → runFrom v i (drop i s) ≡ record { value = v; end = i }
-  run-stop v e = rw (drop-cons s i 0, e)
+  pub run-stop : (limit v : ℕ) → isDigit (getD s i 0) ≡ false
+      → runTo limit v i (drop i s) ≡ record { value = v; end = i }
+  run-stop limit v e = rw (drop-cons s i 0, e)
 
-  pub item-word : isLetter (getD s i 0) ≡ true → stepAt s i ≡ step Word i (wordEnd i (drop i s))
-  item-word e = rw (drop-cons s i 0, e)
+  pub item-word : (limit : ℕ) → isLetter (getD s i 0) ≡ true → stepTo limit s i ≡ step Word i (wordEnd i (drop i s))
+  item-word limit e = rw (drop-cons s i 0, e)
 
-  pub item-number : isLetter (getD s i 0) ≡ false → isDigit (getD s i 0) ≡ true
-      → (r : Run) → r ≡ runFrom 0 i (drop i s) → stepAt s i ≡ numberStep i (getD s i 0) r
-  item-number e f r g = rw (g, drop-cons s i 0, e, f)
+  pub item-number : (limit : ℕ) → isLetter (getD s i 0) ≡ false → isDigit (getD s i 0) ≡ true
+      → (r : Run) → r ≡ runTo limit 0 i (drop i s) → stepTo limit s i ≡ numberStep i (getD s i 0) r
+  item-number limit e f r g = rw (g, drop-cons s i 0, e, f)
 
-  pub item-other : isLetter (getD s i 0) ≡ false → isDigit (getD s i 0) ≡ false
-      → stepAt s i ≡ pick (eqb (getD s i 0) 10) (step LineEnd i (i + 1)) (step Other i i)
-  item-other e f = rw (drop-cons s i 0, e, f)
+  pub item-other : (limit : ℕ) → isLetter (getD s i 0) ≡ false → isDigit (getD s i 0) ≡ false
+      → stepTo limit s i ≡ pick (eqb (getD s i 0) 10) (step LineEnd i (i + 1)) (step Other i i)
+  item-other limit e f = rw (drop-cons s i 0, e, f)
 
 -- a run is a number, save where it begins 0 and goes on
 module _ (at x : ℕ) (r : Run) where
@@ -58,5 +59,5 @@ module _ (s : List ℕ) (i : ℕ) (h : length s ≤ i) where
   pub word-past : wordEnd i (drop i s) ≡ i
   word-past = rw (drop-of-length-le s h)
 
-  pub run-past : (v : ℕ) → runFrom v i (drop i s) ≡ record { value = v; end = i }
-  run-past v = rw (drop-of-length-le s h)
+  pub run-past : (limit v : ℕ) → runTo limit v i (drop i s) ≡ record { value = v; end = i }
+  run-past limit v = rw (drop-of-length-le s h)

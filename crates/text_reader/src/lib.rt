@@ -1,9 +1,10 @@
-// A text read item by item: a word, a number or a line end with its byte offset.
+// A text read item by item: a word, a number or a line end with its byte offset. Numbers are read under a limit, which
+// stands for it and all above.
 ghost use mathlib.Core.Bool.{true};
 ghost use mathlib.Core.Path.{_≡_};
-ghost use Prim.Native.Nat.{_≤_};
+ghost use Prim.Native.Nat.{_^_, _≤_};
 ghost use lib.ListN.{length, drop};
-ghost use Rattle.model.specs.Text.{isLetter, isDigit, growTo, wordEnd, runFrom, stepAt};
+ghost use Rattle.model.specs.Text.{isLetter, isDigit, growTo, wordEnd, runTo, stepTo, stepAt};
 use model::Item;
 use model::Run;
 use model::Step;
@@ -20,14 +21,16 @@ pub fn is_digit(b: u8) -> bool
     48 <= b && b <= 57
 }
 
-// A number with one digit more, and the limit for every number that is not below it; ten times the value and a digit
-// fit a usize.
+// A number with one digit more, and the limit for every number that is not below it. Ten times a value above
+// (2^63 - 1) / 10 is above every limit.
 pub fn with_digit(limit: usize, value: usize, b: u8) -> usize
-    requires { ⌜ value ≤ 1844674407370955160 ⌝ }
+    requires { ⌜ limit ≤ 2 ^ 63 ⌝ }
     requires { ⌜ isDigit b ≡ true ⌝ }
     ensures { λ r. ⌜ r ≡ growTo limit value b ⌝ }
-    ensures { λ r. ⌜ r ≤ limit ⌝ }
 {
+    if 922337203685477580 < value {
+        return limit;
+    }
     let grown = value * 10 + ((b - 48) as usize);
     if grown < limit { grown } else { limit }
 }
@@ -48,9 +51,10 @@ fn word_end(s: &[u8], at: usize) -> usize
 }
 
 // the digits from a place on
-fn digit_run(s: &[u8], at: usize) -> Run
+fn digit_run(limit: usize, s: &[u8], at: usize) -> Run
+    requires { ⌜ limit ≤ 2 ^ 63 ⌝ }
     requires { ⌜ at ≤ length (now s) ⌝ }
-    ensures { λ r. ⌜ r ≡ runFrom 0 at (drop at (now (s .entry))) ⌝ }
+    ensures { λ r. ⌜ r ≡ runTo limit 0 at (drop at (now (s .entry))) ⌝ }
 {
     let mut value: usize = 0;
     let mut i = at;
@@ -62,7 +66,7 @@ fn digit_run(s: &[u8], at: usize) -> Run
                 end: i,
             };
         }
-        value = with_digit(257, value, b);
+        value = with_digit(limit, value, b);
         i += 1;
     }
     Run {
@@ -72,8 +76,9 @@ fn digit_run(s: &[u8], at: usize) -> Run
 }
 
 // The item at a place.
-pub fn step_at(s: &[u8], at: usize) -> Step
-    ensures { λ r. ⌜ r ≡ stepAt (now (s .entry)) at ⌝ }
+pub fn step_to(limit: usize, s: &[u8], at: usize) -> Step
+    requires { ⌜ limit ≤ 2 ^ 63 ⌝ }
+    ensures { λ r. ⌜ r ≡ stepTo limit (now (s .entry)) at ⌝ }
 {
     if s.len() <= at {
         return Step {
@@ -92,7 +97,7 @@ pub fn step_at(s: &[u8], at: usize) -> Step
         };
     }
     if is_digit(b) {
-        let run = digit_run(s, at);
+        let run = digit_run(limit, s, at);
         let end = run.end;
         if b == 48 && at + 1 < end {
             return Step {
@@ -119,4 +124,11 @@ pub fn step_at(s: &[u8], at: usize) -> Step
         at: at,
         next: at,
     }
+}
+
+// The item at a place, as document 01 says it: 257 stands for every number above 256.
+pub fn step_at(s: &[u8], at: usize) -> Step
+    ensures { λ r. ⌜ r ≡ stepAt (now (s .entry)) at ⌝ }
+{
+    step_to(257, s, at)
 }

@@ -1,6 +1,7 @@
 -- `picture_header::pbm_header` meets its contract.
 use borrow.Author.Needs.{needs}
 use Rattle.model.specs.PictureHeader.{pbmHeader}
+use Rattle.picture_header.proofs.Glyphs.{field-most}
 use Rattle.picture_header.proofs.pbm_header.Statement.{statement}
 use Rattle.picture_header.proofs.pbm_header.Tie as tie
 
@@ -25,7 +26,7 @@ returns c =
     let e = magic .read-magic .ensures in
     let w = width .next-number .ensures in
     let h = height .next-number2 .ensures in
-    (rw (c .read-end .ensures, h .0, w .0, e), (w .1, h .1))
+    (rw (c .read-end .ensures, h, w, e), (rw w (field-most _ _), rw h (field-most _ _)))
 
 pub pbm-header-spec : {M : Type 1} → statement M
 pbm-header-spec =

@@ -1,6 +1,7 @@
 -- `picture_header::pgm_header` meets its contract.
 use borrow.Author.Needs.{needs}
 use Rattle.model.specs.PictureHeader.{pgmHeader}
+use Rattle.picture_header.proofs.Glyphs.{field-most}
 use Rattle.picture_header.proofs.pgm_header.Statement.{statement}
 use Rattle.picture_header.proofs.pgm_header.Tie as tie
 
@@ -30,7 +31,7 @@ returns c =
     let w = width .next-number .ensures in
     let h = height .next-number2 .ensures in
     let m = maximum .next-number3 .ensures in
-    (rw (c .read-end .ensures, m .0, h .0, w .0, e), (w .1, h .1))
+    (rw (c .read-end .ensures, m, h, w, e), (rw w (field-most _ _), rw h (field-most _ _)))
 
 pub pgm-header-spec : {M : Type 1} → statement M
 pgm-header-spec =

@@ -11,7 +11,7 @@ use lib.Signed.{ltZ, nonNeg}
 use mir.Facts.{toZ-ofZ}
 use mir.Syntax.{w64}
 use mir.Val.{Fits, SFits}
-use Rattle.model.specs.Interface.{countOf}
+use Rattle.model.specs.Ledger.{countOf}
 use Rattle.platemaker_numbers.proofs.count_of.Statement.{statement}
 use Rattle.platemaker_numbers.proofs.count_of.Tie as tie
 

@@ -7,6 +7,7 @@ use borrow.Author.Tests.{not-true, not-false}
 use lib.ListN.{length}
 use Rattle.model.specs.declared.Head.{Head}
 use Rattle.model.specs.Sheet.{InRange, roomFor}
+use Rattle.sheet_read.proofs.Blocks.{blocks-good}
 use Rattle.sheet.proofs.Outcomes.{read, head-refused, in-range, no-room, body-refused, read-done}
 use Rattle.sheet.proofs.read_sheet.Statement.{statement}
 use Rattle.sheet.proofs.read_sheet.Tie as tie
@@ -80,7 +81,7 @@ store-body-requires c κs =
     let judged = good .before .before in
     let room = judged .before in
     let z : judged .judge-body .result .refusal ≡ 0 = omega arith in
-    (range (left room), (rw (judged .judge-body .ensures) at z, roomy room))
+    (range (left room), (blocks-good _ _ _ (rw (judged .judge-body .ensures) at z), roomy room))
 
 same-length : tie.Need-same-length
 same-length c = search needs

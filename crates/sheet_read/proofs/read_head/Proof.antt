@@ -25,7 +25,7 @@ next-field-requires-5 c κs = search needs
 returns : tie.Need-returns
 returns c =
     let l = c .before .before .before .before .before in
-    five-fields _ (l .read-names .result) (l .read-names .ensures) _ _ _ _ _
+    five-fields _ _ (l .read-names .result) (l .read-names .ensures) _ _ _ _ _
     (c .before .before .before .before .next-field .ensures) (c .before .before .before .next-field2 .ensures)
     (c .before .before .next-field3 .ensures) (c .before .next-field4 .ensures) (c .next-field5 .ensures)
 
