@@ -21,14 +21,14 @@ term gray dots table m = errorOf 255 gray dots m *ℤ getD table m (pos 0)
 
 abbrev Inv-loop : tie.InvT-loop
 Inv-loop gray dots table sum₀ m₀ sum m =
-    (m ≤ length table) × Holds w64 sum (sumTo m (term gray dots table)) (68183654400 * m)
+    Holds w64 sum (sumTo m (term gray dots table)) (68183654400 * m) × (m ≤ length table)
 
 abbrev μ-loop : tie.MeasureT-loop
 μ-loop gray dots table sum₀ m₀ sum m = length table - m
 
 loop-holds : tie.Need-loop-holds Inv-loop μ-loop
 unfolding sumTo
-loop-holds c = (omega arith, record { value = refl; size = lit≤ tt })
+loop-holds c = (record { value = refl; size = lit≤ tt }, omega arith)
 
 error-at-requires : tie.Need-error-at-requires Inv-loop μ-loop
 error-at-requires c κs =
@@ -73,7 +73,7 @@ mul-sum-2 c = mul-fits (factor (c .before)) (cast-holds w64 (held (c .before)) (
 add-sum : tie.Need-add-sum Inv-loop μ-loop
 add-sum c =
     let b = c .before in
-    add-fits (l b .loop .inv .1) (mul-holds (factor b) (cast-holds w64 (held b) (lit< tt)) (lit< tt)) (omega arith)
+    add-fits (l b .loop .inv .0) (mul-holds (factor b) (cast-holds w64 (held b) (lit< tt)) (lit< tt)) (omega arith)
 
 add-m : tie.Need-add-m Inv-loop μ-loop
 add-m c = omega arith
@@ -87,14 +87,14 @@ loop-again c =
     let m = l b .loop .m in
     let f = term (s b .args .gray .now) (s b .args .dots .now) (s b .args .table .now) in
     let product = mul-holds (factor b) (cast-holds w64 (held b) (lit< tt)) (lit< tt) in
-    (omega arith, wider (omega arith) (named (sum-next m f) (add-holds (l b .loop .inv .1) product (omega arith))))
+    (wider (omega arith) (named (sum-next m f) (add-holds (l b .loop .inv .0) product (omega arith))), omega arith)
 
 returns : tie.Need-returns Inv-loop μ-loop
 returns c =
     let s = c .before .before .before .before in
     let f = term (s .args .gray .now) (s .args .dots .now) (s .args .table .now) in
     let e : c .before .loop .m ≡ length (s .args .gray .now) = omega arith in
-    c .before .loop .inv .1 .value ∙ ap (λ n. sumTo n f) e
+    c .before .loop .inv .0 .value ∙ ap (λ n. sumTo n f) e
 
 pub weigh-spec : {M : Type 1} → statement M
 weigh-spec =

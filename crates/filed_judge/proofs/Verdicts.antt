@@ -1,0 +1,73 @@
+-- The verdicts of a filed sheet, as the code comes to them.
+--   count-by, count-none  the dots at the start, and the number that stands for one below 0
+--   unstarted, started    rest, by the number with which a start is refused
+--   figure-by             the figure, by the bits of the two numbers
+--   ledger-by             the ledger, by the number that 21 draws
+use mathlib.Core.Bool.{Bool, true, false, not}
+use mathlib.Core.List.{List, [], _∷_}
+use mathlib.Core.Path.{_≡_, refl, sym, _∙_, ap, subst}
+use Prim.Native.Nat.{ℕ, zero, suc, _+_, _-_, _≤_, _<_}
+use native.Mathlib.Omega.{arith}
+use borrow.Author.Tests.{eqb-true, eqb-false}
+use lib.Dec.{eqb}
+use lib.IntN.{ℤ, pos, negsuc, _+ℤ_, _-ℤ_}
+use mir.Syntax.{w64}
+use mir.Val.{toZ, ofZ}
+use Rattle.algebra.proofs.Solver.{reify}
+use Rattle.algebra.proofs.Order.{read≡, show≡}
+use Rattle.model.specs.declared.Resting.the-variants.{Rests, Lowers, Unstarted}
+use Rattle.model.specs.declared.Stats.{Stats}
+use Rattle.model.specs.Basic.{pick}
+use Rattle.model.specs.Error.{Target, cells, squaredError}
+use Rattle.model.specs.Ledger.{countOf, dotTotal, unequal, wrongStats}
+use Rattle.model.specs.Refusal.{firstOf}
+use Rattle.model.specs.FiledCalls.{ledgerFits, restingOf}
+use Rattle.model.proofs.State.{same}
+use Rattle.judge_ledger.proofs.Tests.{apart}
+
+-- ---- the dots at the start: those on the plate - on + off
+module _ (n on off : ℕ) where
+  abbrev start : ℤ
+  start = pos n -ℤ pos on +ℤ pos off
+
+  pub count-by : on ≤ n + off → n + off - on ≡ countOf (pos n -ℤ pos on +ℤ pos off)
+  count-by h =
+      let rest : pos (n + off - on) ≡ start =
+      show≡ (pos (n + off - on) ∷ pos n ∷ pos on ∷ pos off ∷ []) (search reify depth 40) (omega arith) in
+      ap countOf rest
+
+  pub count-none : n + off < on → 18446744073709551615 ≡ countOf (pos n -ℤ pos on +ℤ pos off)
+  count-none h = go start refl
+    where
+      go : (z : ℤ) → start ≡ z → 18446744073709551615 ≡ countOf z
+      go (pos i) e =
+          absurd (omega (arith, read≡ (pos n ∷ pos on ∷ pos off ∷ pos i ∷ []) (search reify depth 40) e))
+      go (negsuc i) e = refl
+
+-- ---- the figure
+pub figure-by : (n : ℕ) (z : ℤ) → toZ w64 n ≡ pos n → toZ w64 (ofZ w64 z) ≡ z
+    → eqb n (ofZ w64 z) ≡ not (unequal (pos n) z)
+figure-by n z e f = go (eqb n (ofZ w64 z)) refl
+  where
+    go : (b : Bool) → eqb n (ofZ w64 z) ≡ b → b ≡ not (unequal (pos n) z)
+    go true h =
+        ap not (sym (same {a = pos n} {b = z} (sym e ∙ ap (toZ w64) (eqb-true n (ofZ w64 z) h) ∙ f)))
+    go false h = ap not (sym (apart (pos n) z (λ q. eqb-false n (ofZ w64 z) h (ap (ofZ w64) q))))
+
+-- ---- rest
+pub unstarted : {x : ℕ} (number : ℕ) (b : Bool) → x ≡ number → (x ≡ 0 → ⊥) → Unstarted x ≡ restingOf number b
+unstarted zero b e h = absurd (h e)
+unstarted (suc n) b e h = ap Unstarted e
+
+pub started : {x : ℕ} (number : ℕ) {b c : Bool} → x ≡ number → x ≡ 0 → b ≡ c → pick b Rests Lowers ≡ restingOf number c
+started number {b} {c} e z f =
+    subst (λ k. pick b Rests Lowers ≡ restingOf k c) (sym z ∙ e) (ap (λ d. pick d Rests Lowers) f)
+
+-- ---- the ledger
+pub ledger-by : (t : Target) (dots : List ℕ) (s : Stats) {x n total : ℕ} {squared : ℤ} {s′ : Stats}
+    → x ≡ firstOf (wrongStats n (t .step) squared total s′ ∷ [])
+    → n ≡ cells t → squared ≡ squaredError t dots → total ≡ dotTotal dots → s′ ≡ s
+    → eqb x 0 ≡ ledgerFits t dots s
+unfolding ledgerFits
+ledger-by t dots s e n z d l =
+    ap (λ k. eqb k 0) (e ∙ (λ i. firstOf (wrongStats (n i) (t .step) (z i) (d i) (l i) ∷ [])))

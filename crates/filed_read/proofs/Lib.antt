@@ -1,0 +1,2 @@
+-- What the proofs of the filed sheet share.
+pub mod Figures

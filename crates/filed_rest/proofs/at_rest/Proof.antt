@@ -1,0 +1,128 @@
+-- `filed_rest::at_rest` meets its contract: the fronts of the two local arrays hold copies of the dots and the table.
+use mathlib.Core.List.{List, _++_}
+use mathlib.Core.Path.{_≡_, sym, _∙_, ap, subst}
+use Prim.Native.Nat.{ℕ, _≤_}
+use native.Mathlib.Omega.{arith}
+use lib.IntN.{ℤ}
+use lib.ListN.{length, take, length-append}
+use lib.Seq.{take-at}
+use mir.Syntax.{w64}
+use mir.Val.{toZ, ofZ}
+use Rattle.algebra.proofs.Machine.{read-back}
+use Rattle.model.specs.Error.{targetFor, filteredErrors, squaredError}
+use Rattle.model.specs.Refusal.{PlateFits}
+use Rattle.model.specs.FiledCalls.{rests}
+use Rattle.model.proofs.Basic.{part-whole}
+use Rattle.model.proofs.Halftone.{few-cells}
+use Rattle.filed_rest.proofs.at_rest.Statement.{statement}
+use Rattle.filed_rest.proofs.at_rest.Tie as tie
+
+module _ (s : tie.Start) where
+  abbrev dots : List ℕ
+  dots = s .args .dots .now
+
+  abbrev table : List ℤ
+  table = s .args .table .now
+
+  few : length dots ≤ 65536
+  few = omega (arith, few-cells (s .pre .0 .halftone), s .pre .0 .halftone .dots-length)
+
+  alike : length table ≡ length dots
+  alike = s .pre .0 .halftone .table-length ∙ sym (s .pre .0 .halftone .dots-length)
+
+  -- what is asked of the plate, of dots and a table that are the same
+  abbrev Asked : List ℕ → List ℤ → Type 0
+  Asked d t =
+      let a = s .args in
+      let target = targetFor (a .m) (a .psf .now) (a .gray .now) in
+      PlateFits (a .m) (a .psf .now) (a .gray .now) d (length t)
+      × ((t ≡ filteredErrors target d) × (toZ w64 (ofZ w64 (a .squared)) ≡ squaredError target d))
+
+  asked : {d : List ℕ} {t : List ℤ} → d ≡ dots → t ≡ table → Asked d t
+  asked e f =
+      subst (λ (X : Type 0). X) (λ i. Asked (sym e i) (sym f i))
+      (s .pre .0, (s .pre .1 .0, read-back w64 (s .args .squared) (s .fits .squared .sfits) ∙ s .pre .1 .1))
+
+array-borrow-prefix-some-dots : tie.Need-array-borrow-prefix-some-dots
+array-borrow-prefix-some-dots c = few (c .before .before .before)
+
+slice-aggregate-copy-dots : tie.Need-slice-aggregate-copy-dots
+slice-aggregate-copy-dots c = part-whole _ _ (few (c .before .before .before .before))
+
+copy-dots-requires : tie.Need-copy-dots-requires
+copy-dots-requires c κs = sym (part-whole _ _ (few (c .before .before .before .before)))
+
+array-borrow-prefix-some-table : tie.Need-array-borrow-prefix-some-table
+array-borrow-prefix-some-table c = few (c .before .before .before .before .before .before)
+
+slice-aggregate-copy-table : tie.Need-slice-aggregate-copy-table
+slice-aggregate-copy-table c = part-whole _ _ (few (c .before .before .before .before .before .before .before))
+
+copy-table-requires : tie.Need-copy-table-requires
+copy-table-requires c κs =
+    let s : tie.Start = c .before .before .before .before .before .before .before in
+    sym (part-whole _ _ (few s)) ∙ sym (alike s)
+
+-- once both are copied
+module _ (c : tie.After-copy-table) where
+  abbrev k : tie.After-copy-dots
+  k = c .before .before .before
+
+  abbrev s : tie.Start
+  s = k .before .before .before .before .before
+
+  dots-long : length (k .copy-dots .last .1 .0) ≡ length (dots s)
+  dots-long = ap length (k .copy-dots .ensures)
+
+  table-long : length (c .copy-table .last .1 .0) ≡ length (dots s)
+  table-long = ap length (c .copy-table .ensures) ∙ alike s
+
+  -- the parts that are lent on
+  dots-part : (l : List ℕ) → take (length (dots s)) (k .copy-dots .last .1 .0 ++ l) ≡ dots s
+  dots-part l = take-at (k .copy-dots .last .1 .0) l (length (dots s)) dots-long ∙ k .copy-dots .ensures
+
+  table-part : (l : List ℤ) → take (length (dots s)) (c .copy-table .last .1 .0 ++ l) ≡ table s
+  table-part l = take-at (c .copy-table .last .1 .0) l (length (dots s)) table-long ∙ c .copy-table .ensures
+
+array-borrow-prefix-some-dots-2 : tie.Need-array-borrow-prefix-some-dots-2
+array-borrow-prefix-some-dots-2 c = simp length-append (omega (arith, dots-long (c .before)))
+
+slice-aggregate-scans-clear : tie.Need-slice-aggregate-scans-clear
+slice-aggregate-scans-clear c = part-whole _ _ (simp length-append (omega (arith, dots-long (c .before .before))))
+
+array-borrow-prefix-some-table-2 : tie.Need-array-borrow-prefix-some-table-2
+array-borrow-prefix-some-table-2 c = simp length-append (omega (arith, table-long (c .before .before)))
+
+slice-aggregate-scans-clear-2 : tie.Need-slice-aggregate-scans-clear-2
+slice-aggregate-scans-clear-2 c =
+    part-whole _ _ (simp length-append (omega (arith, table-long (c .before .before .before))))
+
+scans-clear-requires : tie.Need-scans-clear-requires
+scans-clear-requires c κs =
+    let b : tie.After-copy-table = c .before .before .before in
+    asked (s b) (dots-part b _) (table-part b _)
+
+returns : tie.Need-returns
+returns c =
+    let k : tie.After-scans-clear = c .before .before in
+    let b : tie.After-copy-table = k .before .before .before .before in
+    let m = s b .args .m in
+    k .scans-clear .ensures
+    ∙ ap (rests (targetFor m (s b .args .psf .now) (s b .args .gray .now)) (m .reach)) (dots-part b _)
+
+pub at-rest-spec : {M : Type 1} → statement M
+at-rest-spec =
+    tie.close
+    (tie.spec
+    array-borrow-prefix-some-dots
+    slice-aggregate-copy-dots
+    copy-dots-requires
+    array-borrow-prefix-some-table
+    slice-aggregate-copy-table
+    copy-table-requires
+    array-borrow-prefix-some-dots-2
+    slice-aggregate-scans-clear
+    array-borrow-prefix-some-table-2
+    slice-aggregate-scans-clear-2
+    scans-clear-requires
+    returns)
