@@ -3,7 +3,7 @@
  * to be that of the dots. Build the library with `rt staticlib platemaker` and link target/staticlib/libplatemaker.a.
  *
  * Each function answers a status: 0, or the refusal number of document 01 (docs/GUIDE.md lists them). On a refusal
- * nothing behind any pointer changes, save the byte offset of the two functions for sheets.
+ * nothing behind any pointer changes, save the byte offset of the three functions for sheets.
  *
  * A buffer is a pointer and a length in elements. A buffer of a wrong length is refused (5), so a length must be the
  * true one. Pointers are never null, not even with length 0; buffers and results of one call do not overlap.
@@ -47,6 +47,18 @@ enum {
     PM_REACH,    /* of a swap in a scan, 0 to 6 */
     PM_START,    /* the kind of start: 0 blank, 1 ordered, 2 the dots given */
     PM_MEASURES  /* how many numbers there are */
+};
+
+/* the numbers in verdict, which pm_check_filed fills */
+enum {
+    PM_FIGURE,  /* the squared error as filed */
+    PM_SQUARED, /* the squared error of the filed dots, by the sum */
+    PM_AGREES,  /* 1 where these two are equal, else 0 */
+    PM_FITS,    /* 1 where 21 is not drawn by the filed ledger, else 0 */
+    PM_RESTS,   /* 1 where no toggle and no swap within reach lowers the squared error, 0 where one does; a start that
+                   refuses the plate would answer its number negated, and none does today */
+    PM_CELLS,   /* width * height */
+    PM_VERDICT  /* how many numbers there are */
 };
 
 /* The autocorrelation of a psf: (4 * radius + 1)^2 numbers, row by row, offsets rising from -2 * radius. Draws 2, 5, 6. */
@@ -118,6 +130,20 @@ uint32_t pm_read_sheet(const uint8_t *bytes, size_t bytes_len, uint8_t *psf, siz
 uint32_t pm_write_sheet(size_t width, size_t height, size_t radius, size_t reach, size_t start, const uint8_t *psf,
                         size_t psf_len, const uint8_t *gray, size_t gray_len, const uint8_t *dots, size_t dots_len,
                         uint8_t *out, size_t out_len, size_t *length, size_t *offset);
+
+/*
+ * Checks a filed sheet: what the program `settle` prints for a plate, that is a sheet with start 2 and two lines of
+ * figures, `before after on off swaps scans` and their numbers. Its ledger has before and after as the squared error at
+ * the start and now, and the dots of the plate - on + off as those at the start; where that is below 0 it does not fit.
+ *
+ * psf, gray, dots and table may be longer than needed: those of the sheet, and the table of its dots, stand at their
+ * front, and what lies past stays. verdict has PM_VERDICT numbers. Draws 5 (verdict of another length) before all else;
+ * 10, 11 and 12 as pm_read_sheet does, 11 also with a start other than 2 and a figure above 2^63 - 1, 12 also with a
+ * table too short; then 6. *offset is written only on a refusal: the byte offset of the place, 0 with 5 and 6.
+ */
+uint32_t pm_check_filed(const uint8_t *bytes, size_t bytes_len, uint8_t *psf, size_t psf_len, uint8_t *gray,
+                        size_t gray_len, uint8_t *dots, size_t dots_len, int32_t *table, size_t table_len,
+                        int64_t *verdict, size_t verdict_len, size_t *offset);
 
 /*
  * Raw Netpbm files: a PBM file (P4) has the dots of a plate, a PGM file (P5) its gray. One image a file, width and

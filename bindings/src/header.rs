@@ -45,6 +45,10 @@ extern "C" {
                           psf_len: usize, gray: *const u8, gray_len: usize, dots: *const u8, dots_len: usize,
                           out: *mut u8, out_len: usize, length: *mut usize, offset: *mut usize) -> u32;
 
+    pub fn pm_check_filed(bytes: *const u8, bytes_len: usize, psf: *mut u8, psf_len: usize, gray: *mut u8,
+                          gray_len: usize, dots: *mut u8, dots_len: usize, table: *mut i32, table_len: usize,
+                          verdict: *mut i64, verdict_len: usize, offset: *mut usize) -> u32;
+
     pub fn pm_read_pbm(file: *const u8, file_len: usize, dots: *mut u8, dots_len: usize, width: *mut usize,
                        height: *mut usize) -> u32;
 

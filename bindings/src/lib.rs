@@ -1,6 +1,6 @@
 //! The library platemaker for Rust. Each function of include/platemaker.h has a safe one here, without `pm_` in its name:
 //! a slice stands for a pointer and a length, a `&mut` number for a result. It answers 0, or the refusal number of
-//! document 01 (docs/GUIDE.md lists them). On a refusal nothing that was lent changes, save the offset of the two
+//! document 01 (docs/GUIDE.md lists them). On a refusal nothing that was lent changes, save the offset of the three
 //! functions for sheets.
 //!
 //! Build the static library first, with `rt staticlib platemaker`.
@@ -38,6 +38,17 @@ pub const REACH: usize = 3;
 pub const START: usize = 4;
 /// How many numbers there are in measures.
 pub const MEASURES: usize = 5;
+
+/// The numbers in verdict, which [`check_filed`] fills: the squared error as filed, and by the sum; whether these are
+/// equal, whether the ledger fits and whether the plate rests, each 1 or 0; width * height.
+pub const FIGURE: usize = 0;
+pub const SQUARED: usize = 1;
+pub const AGREES: usize = 2;
+pub const FITS: usize = 3;
+pub const RESTS: usize = 4;
+pub const CELLS: usize = 5;
+/// How many numbers there are in verdict.
+pub const VERDICT: usize = 6;
 
 /// What a plate is measured by: width and height, 1 to 256; the radius of its psf, 0 to 3; the reach of a swap in a scan,
 /// 0 to 6; the kind of start, 0 blank, 1 ordered, 2 the dots given.
@@ -238,6 +249,50 @@ pub fn write_sheet(
             out.as_mut_ptr(),
             out.len(),
             length,
+            offset,
+        )
+    }
+}
+
+/// Checks a filed sheet: what the program `settle` prints for a plate, a sheet with start 2 and two lines of figures.
+/// The sheet, and the table of its dots, then stand at the front of the slices; what lies past stays. Draws 5 (verdict
+/// of another length than [`VERDICT`]), 10, 11, 12 and 6 with the byte offset, which is written only then.
+///
+/// ```
+/// use platemaker::{check_filed, AGREES, FITS, RESTS, VERDICT};
+///
+/// let filed = b"width height radius reach start\n2 1 1 1 2\npsf\n0 0 0\n1 2 1\n0 0 0\ngray\n100 100\ndots\n1 0\n\
+///     before after on off swaps scans\n200000 80150 1 0 0 3\n";
+/// let (mut psf, mut gray, mut dots, mut table) = ([0; 9], [0; 2], [0; 2], [0; 2]);
+/// let (mut verdict, mut offset) = ([0; VERDICT], 0);
+/// assert_eq!(check_filed(filed, &mut psf, &mut gray, &mut dots, &mut table, &mut verdict, &mut offset), 0);
+/// assert_eq!(verdict, [80_150, 80_150, 1, 1, 1, 2]);
+/// assert_eq!((verdict[AGREES], verdict[FITS], verdict[RESTS]), (1, 1, 1));
+/// assert_eq!(table, [530, 20]);
+/// ```
+pub fn check_filed(
+    bytes: &[u8],
+    psf: &mut [u8],
+    gray: &mut [u8],
+    dots: &mut [u8],
+    table: &mut [i32],
+    verdict: &mut [i64],
+    offset: &mut usize,
+) -> u32 {
+    unsafe {
+        header::pm_check_filed(
+            bytes.as_ptr(),
+            bytes.len(),
+            psf.as_mut_ptr(),
+            psf.len(),
+            gray.as_mut_ptr(),
+            gray.len(),
+            dots.as_mut_ptr(),
+            dots.len(),
+            table.as_mut_ptr(),
+            table.len(),
+            verdict.as_mut_ptr(),
+            verdict.len(),
             offset,
         )
     }

@@ -2,6 +2,8 @@
 --   slice-sized, to-lay             a slice that is taken has the size of a ledger, as laying out an answer requires
 --   slice-refused, slice-taken      a start or a later call, its slice of the ledger refused, or taken
 --   read-unmeasured, read-measured  a sheet, read into a slice that has not five measures, or has
+--   check-unsized, check-sized      a filed sheet, checked into a slice that has not six numbers, or has
+--   check-in-range                  what the check answers has measures in their fields
 use mathlib.Core.List.{List, _++_}
 use mathlib.Core.Path.{_≡_, refl, sym, _∙_, ap, subst}
 use Prim.Native.Nat.{ℕ, _+_}
@@ -10,16 +12,19 @@ use lib.Dec.{eqb}
 use lib.IntN.{ℤ}
 use lib.ListN.{length}
 use Rattle.model.specs.declared.Measures.{Measures}
-use Rattle.model.specs.Calls.{Reply, Outcome, Buffers}
+use Rattle.model.specs.declared.Verdict.{Verdict}
+use Rattle.model.specs.Calls.{Reply, result, refused, Outcome, Buffers}
 use Rattle.model.specs.Interface.{status, after, statsSize}
 use Rattle.model.specs.Interface.{badStatsLength, sliceRefusal, overStats}
-use Rattle.model.specs.Interface.{offsetAfter, readOver}
-use Rattle.model.specs.Sheet.{valuesOf}
+use Rattle.model.specs.Interface.{offsetAfter, readOver, verdictSize, verdictNumbers, checkOver}
+use Rattle.model.specs.Sheet.{valuesOf, InRange}
 use Rattle.model.specs.SheetCalls.{readCall}
+use Rattle.model.specs.FiledCalls.{verdictOf, checkCall}
 use Rattle.model.specs.Refusal.{badMeasures}
 use Rattle.platemaker_numbers.specs.Storable.{Holds}
 use Rattle.model.proofs.Refusal.{none}
 use Rattle.model.proofs.Calls.{is-refused, is-done}
+use Rattle.model.proofs.FiledCheck.{checking}
 
 -- a slice that is taken has the size of a ledger
 pub slice-sized : (m : Measures) (stats : List ℤ) {n : ℕ} → n ≡ sliceRefusal m stats → n ≡ 0 → length stats ≡ statsSize
@@ -106,3 +111,48 @@ module _ (bytes psf gray dots measures : List ℕ) (offset : ℕ) where
         es ∙ ap (after valuesOf measures) k,
         ea ∙ ap (offsetAfter offset) k,
       )
+
+-- ---- a filed sheet, checked
+module _ (bytes psf gray dots : List ℕ) (table verdict : List ℤ) (offset : ℕ) where
+  abbrev CheckedInto : (r : ℕ) (p g d : List ℕ) (t v : List ℤ) (at : ℕ) → Type 0
+  CheckedInto r p g d t v at =
+      let o = checkOver bytes psf gray dots table verdict in
+      (r ≡ status (o .reply))
+      × (p ≡ o .left .psf)
+      × (g ≡ o .left .gray)
+      × (d ≡ o .left .dots)
+      × (t ≡ o .left .table)
+      × (v ≡ after verdictNumbers verdict (o .reply))
+      × (at ≡ offsetAfter offset (o .reply))
+
+  pub check-unsized : (length verdict ≡ verdictSize → ⊥) → CheckedInto 5 psf gray dots table verdict 0
+  unfolding checkOver
+  check-unsized h = rw (ne-eqb (length verdict) verdictSize h) (refl, refl, refl, refl, refl, refl, refl)
+
+  pub check-sized : length verdict ≡ verdictSize
+      → {reply : Reply Verdict} {r : ℕ} {p g d : List ℕ} {t v : List ℤ} {at : ℕ}
+      → (let o = checkCall bytes psf gray dots table in
+      (reply ≡ o .reply)
+      × ((p ≡ o .left .psf) × ((g ≡ o .left .gray) × ((d ≡ o .left .dots) × (t ≡ o .left .table)))))
+      → (r ≡ status reply) × (v ≡ after verdictNumbers verdict reply) × (at ≡ offsetAfter offset reply)
+      → CheckedInto r p g d t v at
+  unfolding checkOver
+  check-sized e (k, (ep, (eg, (ed, et)))) (er, ev, ea) =
+      rw (eq-eqb (length verdict) verdictSize e) (
+        er ∙ ap status k,
+        ep,
+        eg,
+        ed,
+        et,
+        ev ∙ ap (after verdictNumbers verdict) k,
+        ea ∙ ap (offsetAfter offset) k,
+      )
+
+-- what it answers has measures in their fields
+pub check-in-range : (bytes psf gray dots : List ℕ) (table : List ℤ) (reply : Reply Verdict)
+    → reply ≡ checkCall bytes psf gray dots table .reply → Holds (λ v. InRange (v .measures)) reply
+unfolding verdictOf
+check-in-range bytes psf gray dots table (result v) k =
+    let (s, f, c, e) = checking bytes psf gray dots table .check-answers-exactly v .0 (sym k) in
+    subst (λ w. InRange (w .measures)) (sym e) (c .is-filed .is-valid .in-range)
+check-in-range bytes psf gray dots table (refused n o) k = tt

@@ -1,13 +1,13 @@
 // The C interface (include/platemaker.h): a function on numbers and slices for each call of document 01. Each calls the
 // proved function and lays its answer out in numbers: the status, which is 0 or the refusal number, and behind the
-// pointers the rest. A refusal changes nothing but, of a sheet, the byte offset.
+// pointers the rest. A refusal changes nothing but, of a sheet, filed or not, the byte offset.
 ghost use mathlib.Core.Path.{_≡_};
 ghost use Rattle.model.specs.Basic.{AtMost};
 ghost use Rattle.model.specs.Calls.{autocorrelationCall, filteredErrorCall, squaredErrorCall};
-ghost use Rattle.model.specs.Interface.{status, after, numbers};
+ghost use Rattle.model.specs.Interface.{status, after, statsNumbers};
 ghost use Rattle.model.specs.Interface.{startOver, toggleOver, swapOver, toggleScanOver, swapScanOver, convergeOver};
 ghost use Rattle.model.specs.Interface.{changeOf, triedNumbers, scanNumbers, convergeNumbers};
-ghost use Rattle.model.specs.Interface.{offsetAfter, readOver};
+ghost use Rattle.model.specs.Interface.{offsetAfter, readOver, verdictNumbers, checkOver};
 ghost use Rattle.model.specs.Sheet.{valuesOf};
 ghost use Rattle.model.specs.SheetCalls.{writeCall};
 ghost use Rattle.model.specs.PictureCalls.{readPbmCall, readPgmCall, writePbmCall, writePgmCall, countRowsCall};
@@ -17,6 +17,7 @@ use platemaker_answers::lay_filled;
 use platemaker_answers::lay_reading;
 use platemaker_answers::lay_squared_error;
 use platemaker_answers::lay_writing;
+use platemaker_filed::lay_checked;
 use platemaker_ledgers::lay_attempt;
 use platemaker_ledgers::lay_converged;
 use platemaker_ledgers::lay_scan;
@@ -97,7 +98,7 @@ pub extern "C" fn pm_start(
         (r ≡ status (o .reply))
         × (now (dots .exit) ≡ o .left .dots)
         × (now (table .exit) ≡ o .left .table)
-        × (now (stats .exit) ≡ after numbers (now (stats .entry)) (o .reply))) ⌝ }
+        × (now (stats .exit) ≡ after statsNumbers (now (stats .entry)) (o .reply))) ⌝ }
     ensures { λ _. ⌜ AtMost 255 (now (gray .entry)) ⌝ }
 {
     let measures = Measures {
@@ -392,6 +393,35 @@ pub extern "C" fn pm_write_sheet(
     };
     let answer = sheet::write_sheet(measures, psf, gray, dots, out);
     lay_writing(answer, length, offset)
+}
+
+// Checks a filed sheet.
+#[no_mangle]
+pub extern "C" fn pm_check_filed(
+    bytes: &[u8],
+    psf: &mut [u8],
+    gray: &mut [u8],
+    dots: &mut [u8],
+    table: &mut [i32],
+    verdict: &mut [i64],
+    offset: &mut usize,
+) -> u32
+    ensures { λ r. ⌜ (let o = checkOver (now (bytes .entry)) (now (psf .entry)) (now (gray .entry))
+        (now (dots .entry)) (now (table .entry)) (now (verdict .entry)) in
+        (r ≡ status (o .reply))
+        × (now (psf .exit) ≡ o .left .psf)
+        × (now (gray .exit) ≡ o .left .gray)
+        × (now (dots .exit) ≡ o .left .dots)
+        × (now (table .exit) ≡ o .left .table)
+        × (now (verdict .exit) ≡ after verdictNumbers (now (verdict .entry)) (o .reply))
+        × (now (offset .exit) ≡ offsetAfter (now (offset .entry)) (o .reply))) ⌝ }
+{
+    if verdict.len() != 6 {
+        *offset = 0;
+        return 5;
+    }
+    let answer = filed::check_filed(bytes, psf, gray, dots, table);
+    lay_checked(answer, verdict, offset)
 }
 
 // Reads a PBM.
