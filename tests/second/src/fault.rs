@@ -109,6 +109,50 @@ pub enum Fault {
     SpareBitsWritten,
     /// gray read and written as it is stored
     GrayNotNegated,
+    /// a filed figure compared with itself
+    FigureWithItself,
+    /// the filed error at the start compared for that at the end
+    BeforeCompared,
+    /// the last dot left out of a filed sheet's squared error
+    DotLeftOut,
+    /// a filed sheet that always agrees, fits and rests
+    AllVerdictsGood,
+    /// a filed sheet that always rests
+    RestNotTried,
+    /// rest judged by toggles alone
+    TogglesOnly,
+    /// rest judged with one more than the reach
+    SwapsBeyondReach,
+    /// no rest where a change adds 0
+    TiesDisturb,
+    /// a filed sheet with start 0 or 1 taken
+    StartTaken,
+    /// a figure with leading zeros taken
+    FigureZerosTaken,
+    /// figures cut at 64 bits
+    FiguresCut,
+    /// figures from 2^63 to 2^64 - 1 taken
+    FigureOf64BitsTaken,
+    /// the last byte of a filed sheet not judged
+    LastByteNotJudged,
+    /// bytes after a filed sheet taken
+    AppendedTaken,
+    /// the room for a filed sheet's table not judged
+    TableRoomNotJudged,
+    /// what lies past a filed sheet's table set to 0
+    TablePastCleared,
+    /// 10 before 12 at the start of line 3 of a filed sheet
+    RoomJudgedLate,
+    /// 6 before what follows a filed sheet's psf
+    SumJudgedEarly,
+    /// a filed sheet stored before 6 is judged
+    StoredBeforeSum,
+    /// dots + on - off for the dots at the start of a filed sheet
+    StartDotsReversed,
+    /// the counts of a filed sheet not limited, and their fall cut at 64 bits
+    FallWraps,
+    /// one of the conditions for a filed sheet's ledger passed over; that for the counts follows from those before it
+    ConditionPassedOver(usize),
     /// two neighbours in the order of the refusals 1 to 9 and 20 to 22 exchanged, this one and the next
     Exchanged(usize),
 }
@@ -121,7 +165,7 @@ impl Fault {
     }
 }
 
-const SINGLE: [Fault; 54] = [
+const SINGLE: [Fault; 80] = [
     Fault::PsfTransposed,
     Fault::Folded,
     Fault::TiesAccepted,
@@ -176,4 +220,30 @@ const SINGLE: [Fault; 54] = [
     Fault::SpareBitsCounted,
     Fault::SpareBitsWritten,
     Fault::GrayNotNegated,
+    Fault::FigureWithItself,
+    Fault::BeforeCompared,
+    Fault::DotLeftOut,
+    Fault::AllVerdictsGood,
+    Fault::RestNotTried,
+    Fault::TogglesOnly,
+    Fault::SwapsBeyondReach,
+    Fault::TiesDisturb,
+    Fault::StartTaken,
+    Fault::FigureZerosTaken,
+    Fault::FiguresCut,
+    Fault::FigureOf64BitsTaken,
+    Fault::LastByteNotJudged,
+    Fault::AppendedTaken,
+    Fault::TableRoomNotJudged,
+    Fault::TablePastCleared,
+    Fault::RoomJudgedLate,
+    Fault::SumJudgedEarly,
+    Fault::StoredBeforeSum,
+    Fault::StartDotsReversed,
+    Fault::FallWraps,
+    Fault::ConditionPassedOver(0),
+    Fault::ConditionPassedOver(1),
+    Fault::ConditionPassedOver(2),
+    Fault::ConditionPassedOver(3),
+    Fault::ConditionPassedOver(4),
 ];

@@ -1,5 +1,7 @@
 //! Random input: numbers, plates of all shapes with psf, gray, dots, table and stats, single damages to what a call is
-//! handed, sheets and Netpbm files and single damages to these.
+//! handed, sheets, filed sheets and Netpbm files and single damages to these.
+
+pub mod filed;
 
 use crate::handed::{Call, Cell, Handed, ERROR, MEASURES, OFF, ON, START_DOTS, START_ERROR, STATS, SWAPS};
 use crate::picture::{pbm, pgm, row_bytes, PBM, PGM};

@@ -1,5 +1,6 @@
 //! The calls of the header, and one record of everything that a call can be handed and can write.
 
+pub use platemaker::{AGREES, FITS, RESTS, VERDICT};
 pub use platemaker::{ERROR, MEASURES, OFF, ON, START_DOTS, START_ERROR, STATS, SWAPS};
 
 /// A row and a column.
@@ -19,6 +20,7 @@ pub enum Call {
     Converge,
     ReadSheet,
     WriteSheet,
+    CheckFiled,
     ReadPbm,
     ReadPgm,
     WritePbm,
@@ -27,7 +29,7 @@ pub enum Call {
 }
 
 impl Call {
-    pub const ALL: [Call; 16] = [
+    pub const ALL: [Call; 17] = [
         Call::Autocorrelation,
         Call::FilteredError,
         Call::SquaredError,
@@ -39,6 +41,7 @@ impl Call {
         Call::Converge,
         Call::ReadSheet,
         Call::WriteSheet,
+        Call::CheckFiled,
         Call::ReadPbm,
         Call::ReadPgm,
         Call::WritePbm,
@@ -79,6 +82,7 @@ impl Call {
             Call::ToggleScan | Call::SwapScan | Call::Converge => &[1, 2, 3, 4, 5, 6, 7, 20, 21],
             Call::ReadSheet => &[5, 10, 11, 12],
             Call::WriteSheet => &[1, 2, 3, 4, 5, 7, 12],
+            Call::CheckFiled => &[5, 6, 10, 11, 12],
             Call::ReadPbm => &[12, 14],
             Call::ReadPgm => &[12, 14, 15],
             Call::WritePbm => &[1, 5, 7, 12],
@@ -110,7 +114,7 @@ pub struct Handed {
     pub change: i64,
     pub changes: u64,
     pub scans: u64,
-    /// the sheet or the file that is read
+    /// the sheet, the filed sheet or the file that is read
     pub bytes: Vec<u8>,
     pub measures: Vec<usize>,
     pub out: Vec<u8>,
@@ -121,6 +125,7 @@ pub struct Handed {
     pub read_height: usize,
     pub packed: Vec<u8>,
     pub counts: Vec<u32>,
+    pub verdict: Vec<i64>,
 }
 
 impl Handed {

@@ -1,7 +1,9 @@
-//! A second implementation of document 01 and of request C-11, written from these texts and the public pages on Netpbm
-//! files alone, and what the tests need to hold the static library and the program `settle` against it.
+//! A second implementation of document 01, of request C-11 and of the check of filed sheets, written from their texts
+//! and the public pages on Netpbm files alone, and what the tests need to hold the static library and the program
+//! `settle` against it.
 
 pub mod fault;
+pub mod filed;
 pub mod generate;
 pub mod handed;
 pub mod library;

@@ -76,7 +76,7 @@ macro_rules! lent {
 
 lent! {
     psf: u8, gray: u8, dots: u8, table: i32, stats: i64, autocorrelation: i32, bytes: u8, measures: usize, out: u8,
-    packed: u8, counts: u32;
+    packed: u8, counts: u32, verdict: i64;
     error: i64, change: i64, changes: u64, scans: u64, length: usize, offset: usize,
     read_width: usize, read_height: usize
 }
@@ -109,6 +109,7 @@ fn make(call: Call, handed: &Handed, lent: &mut Lent) -> u32 {
         Call::Converge => converge(m, psf, gray, dots, table, stats, lent.scans.number()),
         Call::ReadSheet => read_sheet(bytes, psf, gray, dots, lent.measures.lend(), offset),
         Call::WriteSheet => write_sheet(m, psf, gray, dots, out, length, offset),
+        Call::CheckFiled => check_filed(bytes, psf, gray, dots, table, lent.verdict.lend(), offset),
         Call::ReadPbm => read_pbm(bytes, dots, read_width, read_height),
         Call::ReadPgm => read_pgm(bytes, gray, read_width, read_height),
         Call::WritePbm => write_pbm(width, height, dots, out, length),

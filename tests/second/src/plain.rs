@@ -128,7 +128,7 @@ impl Plate {
         self.dots[self.at(cell)]
     }
 
-    fn dot_total(&self) -> i64 {
+    pub fn dot_total(&self) -> i64 {
         self.dots.iter().map(|&dot| i64::from(dot)).sum()
     }
 
@@ -163,6 +163,18 @@ impl Plate {
         }
     }
 
+    /// An entry of the autocorrelation, which is 0 where a coordinate passes 2r.
+    fn c_at(&self, c: &[i64], (down, right): (isize, isize)) -> i64 {
+        let most = 2 * self.radius as isize;
+        let inside = down.abs() <= most && right.abs() <= most;
+        let at = (down + most) * (2 * most + 1) + right + most;
+        if inside {
+            c[at as usize]
+        } else {
+            0
+        }
+    }
+
     /// The table: T(m) = sum over all cells n of c(n - m) * e(n). Beyond the plate error counts as 0.
     pub fn filtered_error(&self) -> Vec<i64> {
         let c = self.c();
@@ -189,6 +201,14 @@ impl Plate {
         self.all_cells().zip(table).map(|(cell, t)| self.error(cell) * t).sum()
     }
 
+    /// E by the double sum: over all cells m and n, e(m) * c(n - m) * e(n).
+    pub fn double_sum(&self) -> i64 {
+        let c = self.c();
+        let offset = |m: Cell, n: Cell| (n.0 as isize - m.0 as isize, n.1 as isize - m.1 as isize);
+        let product = |m, n| self.error(m) * self.c_at(&c, offset(m, n)) * self.error(n);
+        self.all_cells().map(|m| self.all_cells().map(|n| product(m, n)).sum::<i64>()).sum()
+    }
+
     /// The spread-out error: sum over n of e(n) * p(x - n), x a cell of the plate widened by r on each side.
     fn spread_out(&self, (row, col): Cell) -> i64 {
         let side = 2 * self.radius + 1;
@@ -200,10 +220,15 @@ impl Plate {
         (0..side).map(row_sum).sum()
     }
 
+    /// The spread-out error of every cell of the widened plate, row by row.
+    fn all_spread_out(&self) -> impl Iterator<Item = i64> + '_ {
+        let (high, wide) = (self.height + 2 * self.radius, self.width + 2 * self.radius);
+        (0..high * wide).map(move |at| self.spread_out((at / wide, at % wide)))
+    }
+
     /// E again: the sum of the squares of the spread-out error over the widened plate.
     pub fn sum_of_squares(&self) -> i64 {
-        let (high, wide) = (self.height + 2 * self.radius, self.width + 2 * self.radius);
-        (0..high * wide).map(|at| self.spread_out((at / wide, at % wide)).pow(2)).sum()
+        self.all_spread_out().map(|spread_out| spread_out.pow(2)).sum()
     }
 
     /// The part of that sum that these cells have to do with: the cells of the widened plate within r of one of them.
@@ -319,16 +344,51 @@ impl Plate {
         }
     }
 
-    /// Whether no toggle and no swap within reach lowers E.
-    pub fn rests(&mut self) -> bool {
-        let partners = partners(self.reach);
-        self.all_cells().all(|cell| {
-            let swaps: Vec<_> = partners.iter().filter_map(|&offset| self.moved(cell, offset)).collect();
-            self.change(&[cell]) >= 0
-                && swaps
-                    .into_iter()
-                    .all(|partner| self.dot(partner) == self.dot(cell) || self.change(&[cell, partner]) >= 0)
-        })
+    /// What turning each dot by itself adds to E: the squares of the cells that it spreads to, after it less before it.
+    pub fn toggle_changes(&self) -> Vec<i64> {
+        let (side, wide) = (2 * self.radius + 1, self.width + 2 * self.radius);
+        let spread_out: Vec<i64> = self.all_spread_out().collect();
+        let change = |(row, col): Cell| {
+            let step = if self.dot((row, col)) == 0 { 255 } else { -255 };
+            let square = |(at, p): (usize, &i64)| {
+                let before = spread_out[(row + at / side) * wide + col + at % side];
+                (before + step * p).pow(2) - before.pow(2)
+            };
+            self.psf.iter().enumerate().map(square).sum()
+        };
+        self.all_cells().map(change).collect()
+    }
+
+    /// Whether no toggle and no swap within reach lowers E. Each pair of cells is tried once, from its first cell. A
+    /// swap of unlike dots adds what its toggles add, less 2 * 255^2 * c: both spread to some cells, with unlike signs.
+    pub fn rests(&self) -> bool {
+        let reach = match self.fault {
+            Some(Fault::TogglesOnly) => 0,
+            Some(Fault::SwapsBeyondReach) => self.reach + 1,
+            _ => self.reach,
+        };
+        let least = i64::from(self.fault == Some(Fault::TiesDisturb));
+        let (changes, c) = (self.toggle_changes(), self.c());
+        let onward = square(reach as isize).filter(|&offset| offset > (0, 0));
+        let partners: Vec<_> = onward.map(|offset| (offset, 2 * 255 * 255 * self.c_at(&c, offset))).collect();
+        let swap_rests = |cell: Cell, (offset, overlap)| {
+            let Some(partner) = self.moved(cell, offset) else {
+                return true;
+            };
+            let change = changes[self.at(cell)] + changes[self.at(partner)] - overlap;
+            self.dot(partner) == self.dot(cell) || change >= least
+        };
+        changes.iter().all(|&change| change >= least)
+            && self.all_cells().all(|cell| partners.iter().all(|&partner| swap_rests(cell, partner)))
+    }
+
+    /// The same by the whole sums: every toggle and every swap of unlike dots within reach made on a copy.
+    pub fn rests_by_whole_sums(&self) -> bool {
+        let near = |a: Cell, b: Cell| a.0.abs_diff(b.0) <= self.reach && a.1.abs_diff(b.1) <= self.reach;
+        let is_swap = |a, b| near(a, b) && self.dot(a) != self.dot(b);
+        let lowers = |cells: &[Cell]| self.change_of_whole_sum(cells) < 0;
+        let swap_lowers = |a| self.all_cells().any(|b| is_swap(a, b) && lowers(&[a, b]));
+        !self.all_cells().any(|cell| lowers(&[cell]) || swap_lowers(cell))
     }
 
     /// Whether 2T is at least -255P at every blank and at most 255P at every dot.
@@ -348,10 +408,9 @@ impl Plate {
         if cells.len() == 1 {
             return 255 * (2 * s * t(cells[0]) + 255 * peak);
         }
-        let reach = 2 * self.radius as isize;
         let ((row, col), (row2, col2)) = (cells[0], cells[1]);
         let offset = (row as isize - row2 as isize, col as isize - col2 as isize);
-        let c_offset = square(reach).zip(&c).find(|(d, _)| *d == offset).map_or(0, |(_, &c)| c);
+        let c_offset = self.c_at(&c, offset);
         510 * (s * (t(cells[0]) - t(cells[1])) + 255 * (peak - c_offset))
     }
 }
@@ -362,6 +421,7 @@ impl Second {
         let done = match call {
             Call::ReadSheet => self.read_sheet(handed),
             Call::WriteSheet => self.write_sheet(handed),
+            Call::CheckFiled => self.check_filed(handed),
             Call::ReadPbm => self.read_pbm(handed),
             Call::ReadPgm => self.read_pgm(handed),
             Call::WritePbm => self.write_pbm(handed),
@@ -411,7 +471,7 @@ impl Second {
     }
 
     /// 6: spread sum 0 or above 1,024.
-    fn sum_outside(&self, psf: &[u8]) -> bool {
+    pub fn sum_outside(&self, psf: &[u8]) -> bool {
         let largest = if self.has(Fault::Sum1025Taken) { 1025 } else { 1024 };
         let sum: usize = psf.iter().map(|&entry| usize::from(entry)).sum();
         sum == 0 || sum > largest
@@ -547,6 +607,6 @@ fn lengths(call: Call, handed: &Handed) -> Vec<(usize, usize)> {
     lengths
 }
 
-fn narrow(values: Vec<i64>) -> Vec<i32> {
+pub fn narrow(values: Vec<i64>) -> Vec<i32> {
     values.into_iter().map(|value| i32::try_from(value).unwrap()).collect()
 }

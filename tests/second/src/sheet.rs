@@ -12,6 +12,9 @@ use std::cmp::Reverse;
 pub const PROGRAM_BYTES: usize = 32_768;
 pub const PROGRAM_CELLS: usize = 4_096;
 
+/// How many figures stand below a filed sheet.
+pub const FIGURES: usize = 6;
+
 /// The names and the fields of the measures.
 const NAMES: &[u8] = b"width height radius reach start\n";
 const FIELDS: [(usize, usize); MEASURES] = [(1, 256), (1, 256), (0, 3), (0, 6), (0, 2)];
@@ -142,6 +145,21 @@ pub fn text(handed: &Handed, start: usize) -> Vec<u8> {
     Composed::of(numbers.iter().map(String::as_bytes), None).text
 }
 
+/// The figures of a settled plate: E at the start, E now, the three counts, the scans.
+pub fn figures(handed: &Handed) -> [i64; FIGURES] {
+    let stats = &handed.stats;
+    [stats[START_ERROR], stats[ERROR], stats[ON], stats[OFF], stats[SWAPS], handed.scans as i64]
+}
+
+/// The filed sheet of a plate: a sheet with start 2, then the names of its figures and the figures.
+pub fn filed(handed: &Handed, figures: [i64; FIGURES]) -> Vec<u8> {
+    let mut filed = text(handed, 2);
+    filed.extend(b"before after on off swaps scans\n");
+    filed.extend(figures.map(|figure| figure.to_string()).join(" ").bytes());
+    filed.push(b'\n');
+    filed
+}
+
 impl Second {
     /// Reads a sheet: the leftmost place decides, 12 first at an equal place.
     pub fn read_sheet(&self, handed: &mut Handed) -> Result<(), u32> {
@@ -219,13 +237,7 @@ impl Second {
             let number = self.call(call, &mut handed);
             refuse(number, number > 0).map_err(|number| (0, number))?;
         }
-        let mut printed = text(&handed, 2);
-        let stats = &handed.stats;
-        let figures = [stats[START_ERROR], stats[ERROR], stats[ON], stats[OFF], stats[SWAPS], handed.scans as i64];
-        printed.extend(b"before after on off swaps scans\n");
-        printed.extend(figures.map(|figure| figure.to_string()).join(" ").bytes());
-        printed.push(b'\n');
-        Ok(printed)
+        Ok(filed(&handed, figures(&handed)))
     }
 }
 

@@ -43,6 +43,7 @@ fn name(words: &str, handed: &mut Handed) -> Result<Call, String> {
         "converge" => (Call::Converge, 0),
         "read-sheet" => (Call::ReadSheet, 0),
         "write-sheet" => (Call::WriteSheet, 0),
+        "check-filed" => (Call::CheckFiled, 0),
         "read-pbm" => (Call::ReadPbm, 0),
         "read-pgm" => (Call::ReadPgm, 0),
         "write-pbm" => (Call::WritePbm, 0),
@@ -75,6 +76,7 @@ fn set(field: &str, handed: &mut Handed) -> Result<(), String> {
         "out" => handed.out = bytes(values)?,
         "packed" => handed.packed = numbers(values)?,
         "counts" => handed.counts = numbers(values)?,
+        "verdict" => handed.verdict = numbers(values)?,
         _ => return Err(format!("there is no field {name}")),
     }
     Ok(())
@@ -108,6 +110,7 @@ fn written(call: Call) -> &'static [&'static str] {
         Call::Converge => &["scans", "dots", "table", "stats"],
         Call::ReadSheet => &["offset", "psf", "gray", "dots", "measures"],
         Call::WriteSheet => &["length", "offset", "out"],
+        Call::CheckFiled => &["offset", "verdict", "psf", "gray", "dots", "table"],
         Call::ReadPbm => &["size", "dots"],
         Call::ReadPgm => &["size", "gray"],
         Call::WritePbm | Call::WritePgm => &["length", "out"],
@@ -133,6 +136,7 @@ fn shown(field: &str, handed: &Handed) -> String {
         "autocorrelation" => list(field, &handed.autocorrelation),
         "measures" => list(field, &handed.measures),
         "counts" => list(field, &handed.counts),
+        "verdict" => list(field, &handed.verdict),
         "out" if handed.out.is_empty() => field.to_string(),
         "out" => format!("{field} {}", text(&handed.out)),
         _ => unreachable!("{field} is written by no call"),

@@ -10,7 +10,7 @@
 
 use second::fault::Fault;
 use second::generate::{self, Random};
-use second::handed::{Call, Handed, ERROR, MEASURES, OFF, ON, START_DOTS, START_ERROR};
+use second::handed::{Call, Handed, AGREES, ERROR, FITS, MEASURES, OFF, ON, RESTS, START_DOTS, START_ERROR};
 use second::library;
 use second::picture::{self, row_bytes};
 use second::plain::{self, Plate, Second};
@@ -21,6 +21,8 @@ use std::thread::Builder;
 
 /// The rounds of the default.
 const ROUNDS: u64 = 2000;
+/// The filed sheets checked in a round, all of one plate.
+const FILED: usize = 8;
 /// The Netpbm files read in a round.
 const FILES: usize = 12;
 /// The stack of a thread, in bytes.
@@ -36,7 +38,7 @@ struct Run {
     failed: u64,
     /// how often each call gave each answer
     answers: BTreeMap<(usize, u32), u64>,
-    /// how often attempts, scans and settlings that were not refused came out in each way
+    /// how often attempts, scans, settlings and checks that were not refused came out in each way
     outcomes: BTreeMap<(usize, &'static str), u64>,
 }
 
@@ -88,7 +90,8 @@ impl Run {
         }
     }
 
-    /// One round: each call once on a plate, a list of calls now and then, sheets and Netpbm files read and written.
+    /// One round: each call once on a plate, a list of calls now and then, sheets and Netpbm files read and written,
+    /// filed sheets checked.
     fn round(&mut self) {
         for call in Call::ALL.into_iter().filter(|&call| call.is_on_plate()) {
             let mut handed = generate::damaged(&mut self.random, call);
@@ -99,6 +102,7 @@ impl Run {
         }
         (0..4).for_each(|_| self.read_a_sheet());
         self.write_a_sheet();
+        self.check_filed_sheets();
         (0..FILES).for_each(|_| self.read_a_file());
         self.write_pictures();
     }
@@ -112,6 +116,7 @@ impl Run {
             return;
         }
         let first = handed.stats.clone();
+        let mut settled = false;
         let calls = self.random.within(1, 16);
         for _ in 0..calls {
             use Call::*;
@@ -122,8 +127,10 @@ impl Run {
             let before = handed.clone();
             let answer = self.compare(call, &mut handed);
             self.demand(call, answer, &first, &before, &handed);
+            settled = call == Converge;
         }
         self.dots_of_rows(&handed);
+        self.file(Handed { scans: 0, ..handed }, settled);
     }
 
     /// The dots of each row, counted from the packed bytes of the plate; their sum is the dot total of its ledger.
@@ -146,7 +153,7 @@ impl Run {
     /// Demand 3 after one call of a list, by fresh sums.
     fn demand(&mut self, call: Call, answer: u32, first: &[i64], before: &Handed, after: &Handed) {
         let (stats, accepted) = (&after.stats, after.accepted() - before.accepted());
-        let mut plate = Plate::new(after, None);
+        let plate = Plate::new(after, None);
         let table: Vec<i64> = after.table.iter().map(|&t| i64::from(t)).collect();
         let dots: i64 = after.dots.iter().map(|&dot| i64::from(dot)).sum();
         let fall = first[START_ERROR] - stats[ERROR];
@@ -203,6 +210,58 @@ impl Run {
         let measures = [handed.width, handed.height, handed.radius, handed.reach, 2];
         let same = (&back.psf, &back.gray, &back.dots) == (&handed.psf, &handed.gray, &handed.dots);
         self.expect("a sheet written is read back", answer == 0 && same && back.measures == measures);
+    }
+
+    /// Checks filed sheets of one plate, each with none or some things changed.
+    fn check_filed_sheets(&mut self) {
+        let filed = generate::filed::filed(&mut self.random);
+        for _ in 0..FILED {
+            let mut handed = generate::filed::varied(&mut self.random, &filed);
+            self.compare(Call::CheckFiled, &mut handed);
+        }
+    }
+
+    /// Two small filed sheets, with every damage at every place.
+    fn sweep_filed(&mut self) {
+        for size in [(1, 1), (3, 2)] {
+            let filed = generate::filed::settled(&mut self.random, size);
+            let handed = generate::filed::exact(&filed);
+            for bytes in generate::all_sheet_damages(&handed.bytes) {
+                self.compare(Call::CheckFiled, &mut Handed { bytes, ..handed.clone() });
+            }
+        }
+    }
+
+    /// Files a plate as a list of calls left it: it agrees and fits, and rests where the last call was a settling.
+    fn file(&mut self, plate: Handed, settled: bool) {
+        let mut handed = generate::filed::exact(&generate::filed::of(plate));
+        let answer = self.compare(Call::CheckFiled, &mut handed);
+        let [agrees, fits, rests] = [AGREES, FITS, RESTS].map(|at| handed.verdict[at] == 1);
+        self.expect("a plate filed agrees, fits and rests", answer == 0 && agrees && fits && (rests || !settled));
+    }
+
+    /// The largest filed sheets, settled by the library, each also with a dot turned; figures of very many digits.
+    fn large_filed(&mut self) {
+        for size in [(256, 256), (255, 256), (256, 131)] {
+            let mut plate = generate::handed(&mut self.random, size);
+            for call in [Call::Start, Call::Converge] {
+                library::call(call, &mut plate);
+            }
+            self.file(plate.clone(), true);
+            let filed = generate::filed::of(plate);
+            for _ in 0..3 {
+                let mut handed = generate::filed::varied(&mut self.random, &filed);
+                self.compare(Call::CheckFiled, &mut handed);
+            }
+        }
+        let filed = generate::filed::settled(&mut self.random, (2, 2));
+        for digits in [b"1", b"0"] {
+            let mut handed = generate::filed::exact(&filed);
+            handed.bytes.pop();
+            handed.bytes.extend(digits.repeat(100_000));
+            handed.bytes.push(b'\n');
+            self.compare(Call::CheckFiled, &mut handed);
+        }
     }
 
     /// Reads a Netpbm file with none, one or two damages, as either kind.
@@ -318,6 +377,7 @@ impl Run {
         }
         self.extreme();
         self.large_sheets();
+        self.large_filed();
         self.large_files();
         for gray in 0..=255 {
             let mut handed = generate::handed(&mut self.random, (17, 33));
@@ -364,13 +424,14 @@ impl Run {
         self.expect("the sheet of document 01", self.second.settle(SHEET) == PRINTED);
     }
 
-    /// The sums of the second implementation against each other: E in two ways, a change in three.
+    /// The sums of the second implementation against each other: E in three ways, a change in three, rest in two.
     fn sums(&mut self) {
         for _ in 0..300 {
             let size = (self.random.within(1, 9), self.random.within(1, 9));
             let handed = generate::handed(&mut self.random, size);
             let mut plate = Plate::new(&handed, self.second.fault);
-            self.expect("E in two ways", plate.squared_error() == plate.sum_of_squares());
+            let error = plate.squared_error();
+            self.expect("E in three ways", error == plate.sum_of_squares() && error == plate.double_sum());
             for call in [Call::TryToggle, Call::TrySwap] {
                 let cells = call.named(&handed);
                 if cells.len() == 2 && plate.dot(cells[0]) == plate.dot(cells[1]) {
@@ -380,6 +441,21 @@ impl Run {
                 let same = change == plate.change_of_whole_sum(&cells) && change == plate.change_by_formula(&cells);
                 self.expect("a change in three ways", same);
             }
+            let at = handed.row * handed.width + handed.col;
+            let change = plate.change(&[(handed.row, handed.col)]);
+            self.expect("a toggle among all of them", plate.toggle_changes()[at] == change);
+        }
+        for _ in 0..30 {
+            self.rest();
+        }
+    }
+
+    /// Rest in two ways: of a settled plate, of one that rests but for swaps, and of another one.
+    fn rest(&mut self) {
+        let size = (self.random.within(1, 5), self.random.within(1, 5));
+        for make in [generate::filed::settled, generate::filed::toggled, generate::filed::as_it_is] {
+            let plate = Plate::new(&make(&mut self.random, size).plate, self.second.fault);
+            self.expect("rest in two ways", plate.rests() == plate.rests_by_whole_sums());
         }
     }
 
@@ -410,14 +486,24 @@ impl Run {
 fn outcomes_of(call: Call) -> &'static [&'static str] {
     match call {
         Call::TryToggle | Call::TrySwap => &["accepted", "declined", "tied"],
+        Call::CheckFiled => &CHECKED,
         _ if call.is_later() => &["changed", "unchanged"],
         _ => &[],
     }
 }
 
+/// The ways in which a check comes out, those at rest last. Where the figure differs the ledger does not fit.
+const CHECKED: [&str; 6] = ["fits", "agrees", "differs", "fits and rests", "agrees and rests", "differs and rests"];
+
 fn outcome(call: Call, answer: u32, before: &Handed, after: &Handed) -> Option<&'static str> {
     match call {
-        _ if answer > 0 || !call.is_later() => None,
+        _ if answer > 0 => None,
+        Call::CheckFiled => {
+            let [agrees, fits, rests] = [AGREES, FITS, RESTS].map(|at| after.verdict[at] == 1);
+            let way = if fits { 0 } else { 2 - usize::from(agrees) };
+            Some(CHECKED[way + 3 * usize::from(rests)])
+        }
+        _ if !call.is_later() => None,
         Call::TryToggle | Call::TrySwap if after.change == 0 => Some("tied"),
         Call::TryToggle | Call::TrySwap => Some(if after.change < 0 { "accepted" } else { "declined" }),
         _ => Some(if before.dots == after.dots { "unchanged" } else { "changed" }),
@@ -435,6 +521,7 @@ fn differential(seed: u64, rounds: u64) -> (u64, u64) {
     run.sums();
     (0..rounds).for_each(|_| run.round());
     run.sweep();
+    run.sweep_filed();
     run.sweep_files();
     run.large();
     run.at_the_same_time();

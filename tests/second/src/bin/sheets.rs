@@ -1,14 +1,19 @@
 //! Runs the program `settle` on generated sheets, good and damaged, and holds all that it prints against the second
-//! implementation.
+//! implementation. What it prints of these, and of the sheets NAME.sheet of the folders given, is handed to the
+//! library's check, by which it has to agree, to fit and to rest.
 //!
-//!     sheets PATH_OF_SETTLE    the last line is 'N passed, M failed'; PLATEMAKER_SEED=N repeats the run of a seed
-//!     sheets --print           prints what `settle` has to print for standard input
+//!     sheets PATH_OF_SETTLE FOLDER...    the last line is 'N passed, M failed'
+//!     sheets --print                     prints what `settle` has to print for standard input
+//!
+//! PLATEMAKER_SEED=N repeats the run of a seed.
 
 use second::generate::{self, Random};
-use second::handed::Handed;
+use second::handed::{Call, Handed, AGREES, FITS, RESTS, VERDICT};
+use second::library;
 use second::plain::Second;
-use second::sheet::{self, PROGRAM_BYTES};
+use second::sheet::{self, PROGRAM_BYTES, PROGRAM_CELLS};
 use std::collections::BTreeMap;
+use std::fs;
 use std::io::{self, ErrorKind, Read, Write};
 use std::process::{Command, ExitCode, Stdio};
 use std::thread::sleep;
@@ -87,22 +92,60 @@ fn print() -> io::Result<()> {
     io::stdout().write_all(&Second::default().settle(&input))
 }
 
-fn compare(settle: &str) -> ExitCode {
+/// Whether what the program printed agrees, fits and rests by the library's check, which also leaves what the second
+/// implementation leaves.
+fn is_good(printed: &[u8]) -> bool {
+    let mut handed = Handed {
+        bytes: printed.to_vec(),
+        psf: vec![9; 49],
+        gray: vec![9; PROGRAM_CELLS],
+        dots: vec![9; PROGRAM_CELLS],
+        table: vec![9; PROGRAM_CELLS],
+        verdict: vec![9; VERDICT],
+        ..Handed::default()
+    };
+    let mut wanted = handed.clone();
+    let number = Second::default().call(Call::CheckFiled, &mut wanted);
+    let (answer, guards) = library::call(Call::CheckFiled, &mut handed);
+    let good = [AGREES, FITS, RESTS].iter().all(|&at| handed.verdict[at] == 1);
+    (answer, number) == (0, 0) && handed == wanted && guards && good
+}
+
+/// The sheets of a folder.
+fn stored(folder: &String) -> Vec<Vec<u8>> {
+    let entries = fs::read_dir(folder).unwrap_or_else(|error| panic!("{folder}: {error}"));
+    let paths = entries.map(|entry| entry.expect("an entry of the folder").path());
+    let sheets = paths.filter(|path| path.extension().is_some_and(|end| end == "sheet"));
+    sheets.map(|path| fs::read(path).expect("a sheet that can be read")).collect()
+}
+
+fn compare(settle: &str, folders: &[String]) -> ExitCode {
     let seed = generate::seed();
     println!("PLATEMAKER_SEED={seed}");
     let mut random = Random::new(seed);
     let (mut passed, mut failed, mut kinds) = (0, 0, BTreeMap::<String, u64>::new());
+    let mut settled = Vec::new();
+    let text = String::from_utf8_lossy;
     for input in inputs(&mut random) {
         let wanted = Second::default().settle(&input);
         *kinds.entry(kind(&wanted)).or_default() += 1;
         let got = printed(settle, input.split_at(random.below(input.len() + 1)));
-        if got == wanted {
+        if got != wanted {
+            failed += 1;
+            println!("input:\n{}printed:\n{}wanted:\n{}", text(&input), text(&got), text(&wanted));
+            continue;
+        }
+        passed += 1;
+        settled.extend((kind(&got) == "settled").then_some(got));
+    }
+    let stored = folders.iter().flat_map(stored).map(|sheet| printed(settle, (&sheet, b"")));
+    for filed in settled.into_iter().chain(stored) {
+        if is_good(&filed) {
             passed += 1;
             continue;
         }
         failed += 1;
-        let text = String::from_utf8_lossy;
-        println!("input:\n{}printed:\n{}wanted:\n{}", text(&input), text(&got), text(&wanted));
+        println!("printed, and not good by the check:\n{}", text(&filed));
     }
     println!("{kinds:?}");
     for kind in ["settled", "refused 6", "refused 10", "refused 11", "refused 12", "refused 13"] {
@@ -116,11 +159,12 @@ fn compare(settle: &str) -> ExitCode {
 }
 
 fn main() -> ExitCode {
-    match std::env::args().nth(1).as_deref() {
-        Some("--print") => print().map_or(ExitCode::FAILURE, |()| ExitCode::SUCCESS),
-        Some(settle) => compare(settle),
-        None => {
-            eprintln!("usage: sheets PATH_OF_SETTLE | sheets --print");
+    let words: Vec<String> = std::env::args().skip(1).collect();
+    match &words[..] {
+        [word] if word == "--print" => print().map_or(ExitCode::FAILURE, |()| ExitCode::SUCCESS),
+        [settle, folders @ ..] => compare(settle, folders),
+        [] => {
+            eprintln!("usage: sheets PATH_OF_SETTLE FOLDER... | sheets --print");
             ExitCode::from(2)
         }
     }
