@@ -4,6 +4,7 @@
 //!     bench --count library|baseline|any-first KIND    one small settling, for a tool that counts instructions
 
 mod baseline;
+mod filed;
 mod input;
 mod library;
 mod measure;
@@ -11,6 +12,7 @@ mod plate;
 mod report;
 
 use baseline::Baseline;
+use filed::checks;
 use library::Library;
 use measure::{job, settlings, single_calls, Scale};
 use plate::{Plate, Side};
@@ -51,7 +53,7 @@ fn compare(words: &[&str]) -> ExitCode {
     } else {
         Scale { side: 256, repetitions: 5, calls: 32 }
     };
-    let (settled, called) = (settlings(&scale), single_calls(&scale));
+    let (settled, called, checked) = (settlings(&scale), single_calls(&scale), checks(&scale));
     let side = scale.side;
     println!("{side} by {side}, median of {}; a: the library, b: the baseline\n", scale.repetitions);
     println!(
@@ -60,7 +62,10 @@ fn compare(words: &[&str]) -> ExitCode {
     settled.table.print(words.contains(&"--markdown"));
     println!("One call in us, radius 3; bj: b that judges table and stats first\n");
     called.table.print(words.contains(&"--markdown"));
-    let (alike, unlike) = (settled.alike + called.alike, settled.unlike + called.unlike);
+    println!("A filed sheet in ms; a: its check, b: it is read, started and settled again, by the library\n");
+    checked.table.print(words.contains(&"--markdown"));
+    let all = [settled, called, checked];
+    let (alike, unlike) = all.iter().fold((0, 0), |sum, one| (sum.0 + one.alike, sum.1 + one.unlike));
     println!("{alike} passed, {unlike} failed");
     ExitCode::from(u8::from(unlike > 0))
 }

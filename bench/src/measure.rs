@@ -25,11 +25,11 @@ pub struct Outcome {
 }
 
 impl Outcome {
-    fn new(head: &[&str]) -> Outcome {
+    pub fn new(head: &[&str]) -> Outcome {
         Outcome { table: Table::new(head), alike: 0, unlike: 0 }
     }
 
-    fn add(&mut self, mut row: Vec<String>, alike: bool) {
+    pub fn add(&mut self, mut row: Vec<String>, alike: bool) {
         row.push(if alike { "yes" } else { "NO" }.to_string());
         self.table.add(row);
         self.alike += usize::from(alike);
@@ -56,7 +56,7 @@ fn settle_once(side: &dyn Side, job: &Job) -> Settled {
 }
 
 /// The median in milliseconds.
-fn median<T>(runs: &[T], time: impl Fn(&T) -> Duration) -> f64 {
+pub fn median<T>(runs: &[T], time: impl Fn(&T) -> Duration) -> f64 {
     let mut times: Vec<Duration> = runs.iter().map(time).collect();
     times.sort();
     times[times.len() / 2].as_secs_f64() * 1000.0
