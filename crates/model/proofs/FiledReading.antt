@@ -1,29 +1,30 @@
 -- The text of a filed sheet is that of the parts of its grammar with its values, and values in their fields are a valid
 -- sheet with start 2 and its figures.
 --   filed-formed                its grammar is one that texts are read by
---   text-filed                  the text
+--   text-filed, grammar-filed   the text; and the texts of its grammar are no others
 --   lines-inside, inside-lines  the values of line 2 are in their fields exactly where the measures are, start being 2
 --   below-inside, inside-below  those that follow it exactly where the sheet is valid and the figures are small enough
 --   filed-read, read-filed      a filed sheet is read as itself where there is room, and what is read is one
 use mathlib.Core.Bool.{true}
 use mathlib.Core.List.{List, [], _∷_, _++_, append-assoc}
 use mathlib.Core.Path.{_≡_, refl, sym, _∙_, ap, ap₂}
-use Prim.Native.Nat.{ℕ, _≤_}
+use Prim.Native.Nat.{ℕ, _+_, _≤_}
 use native.Mathlib.Omega.{arith}
-use lib.ListN.{length, take, drop, take-append-drop}
-use lib.Seq.{take-at, drop-at}
+use lib.ListN.{length, take, drop, length-append, length-drop, take-append-drop}
+use lib.Seq.{length-take-le, take-at, drop-at}
 use Rattle.model.specs.declared.FiledFigures.{FiledFigures}
 use Rattle.model.specs.declared.Measures.{Measures}
-use Rattle.model.specs.Basic.{AtMost}
+use Rattle.model.specs.Basic.{Exactly, AtMost}
 use Rattle.model.specs.Sheet.{Sheet, valuesOf, Shaped, InRange, Valid}
 use Rattle.model.specs.Format.{headFrom, head, body, textOf, sheetOf}
 use Rattle.model.specs.Program.{figuresText}
-use Rattle.model.specs.Grammar.{numbers, partsOf, Taken}
+use Rattle.model.specs.Grammar.{numbers, partsOf, IsText, Taken}
 use Rattle.model.specs.Filed.{filedText, figuresIn, mostFigure, figureParts, filedGrammar, figuresOf, filedSheet}
 use Rattle.model.specs.Filed.{filedFigures, IsFiled, filedRoom, readFiled}
 use Rattle.model.proofs.Format.{Inside, inside-length, good-append, good-head, good-body, text-append}
+use Rattle.model.proofs.Format.{numbers-append}
 use Rattle.model.proofs.Sheet.{sheetGrammar, formed, numbers-head, valuesIn, text-parts, values-in-length}
-use Rattle.model.proofs.Sheet.{sheet-values, values-sheet}
+use Rattle.model.proofs.Sheet.{values-shaped, sheet-values, values-sheet}
 use Rattle.model.proofs.Sheet.{head-inside, inside-head, grid-inside, inside-grid}
 use Rattle.model.proofs.Sheet.{inside-append, inside-split, body-inside, inside-body}
 use Rattle.model.proofs.Grammar.{Formed, five, text-lines, taken-text, text-taken}
@@ -65,6 +66,58 @@ text-filed s f h wide =
     (sym (text-append (body m) figureParts (valuesIn s) (figuresIn f) (values-in-length s h)))
     ∙ sym (text-lines filedGrammar filed-formed m (valuesIn s ++ figuresIn f))
 
+-- six values are figures
+six : (vs : List ℕ) → length vs ≡ 6 → figuresIn (figuresOf vs) ≡ vs
+six [] e = absurd (omega arith)
+six (v ∷ vs) e = ap (λ l. v ∷ l) (five vs (omega arith))
+
+numbers-below : (m : Measures) → numbers (filedGrammar .below m) ≡ numbers (body m) + 6
+unfolding figureParts
+numbers-below m = numbers-append (body m) figureParts
+
+-- the texts of the grammar are those of filed sheets, their numbers of any size
+pub grammar-filed : (b : List ℕ)
+    → Exactly ((t : IsText filedGrammar b) × (1 ≤ t .measures .width))
+    ((s : Sheet) × (f : FiledFigures) × Shaped s × (1 ≤ s .measures .width) × (b ≡ filedText s f))
+grammar-filed b = (to, from)
+  where
+    to : (t : IsText filedGrammar b) × (1 ≤ t .measures .width)
+        → (s : Sheet) × (f : FiledFigures) × Shaped s × (1 ≤ s .measures .width) × (b ≡ filedText s f)
+    to (t, wide) =
+        let m = t .measures in
+        let vs = t .values in
+        let n = numbers (body m) in
+        let l : length vs ≡ n + 6 = t .long ∙ numbers-below m in
+        let s = filedSheet m vs in
+        let f = filedFigures m vs in
+        let h = values-shaped m (take n vs) (length-take-le n vs (omega (arith, l))) in
+        let last : length (drop n vs) ≡ 6 = length-drop n vs ∙ omega (arith, l) in
+        let same : valuesIn s ++ figuresIn f ≡ vs =
+        ap₂ (λ a c. a ++ c) (sheet-values m (take n vs)) (six (drop n vs) last) ∙ take-append-drop n vs in (
+          s,
+          f,
+          h,
+          wide,
+          t .text
+              ∙ ap (λ us. textOf (partsOf filedGrammar m) (valuesOf m ++ us)) (sym same)
+              ∙ sym (text-filed s f h wide),
+        )
+
+    from : (s : Sheet) × (f : FiledFigures) × Shaped s × (1 ≤ s .measures .width) × (b ≡ filedText s f)
+        → (t : IsText filedGrammar b) × (1 ≤ t .measures .width)
+    from (s, f, h, wide, e) = (
+      record {
+        measures = s .measures;
+        values = valuesIn s ++ figuresIn f;
+        long =
+            length-append (valuesIn s) (figuresIn f)
+            ∙ ap (λ n. n + 6) (values-in-length s h)
+            ∙ sym (numbers-below (s .measures));
+        text = e ∙ text-filed s f h wide;
+      },
+      wide,
+    )
+
 -- ---- its values
 pub lines-inside : (m : Measures) → InRange m → m .start ≡ 2 → Inside (headFrom 2) (valuesOf m)
 unfolding headFrom
@@ -87,10 +140,6 @@ figures-inside f h = grid-inside 6 mostFigure 0 6 (figuresIn f) refl h
 inside-figures : (vs : List ℕ) → Inside figureParts vs → (figuresIn (figuresOf vs) ≡ vs) × AtMost mostFigure vs
 unfolding figureParts
 inside-figures vs i = (six vs (inside-length figureParts vs i), inside-grid 6 mostFigure 0 6 vs i)
-  where
-    six : (vs : List ℕ) → length vs ≡ 6 → figuresIn (figuresOf vs) ≡ vs
-    six [] e = absurd (omega arith)
-    six (v ∷ vs) e = ap (λ l. v ∷ l) (five vs (omega arith))
 
 pub below-inside : (s : Sheet) (f : FiledFigures) → Valid s → AtMost mostFigure (figuresIn f)
     → Inside (filedGrammar .below (s .measures)) (valuesIn s ++ figuresIn f)

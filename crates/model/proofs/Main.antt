@@ -23,6 +23,7 @@ use Rattle.model.proofs.PictureExamples.{picture-examples}
 use Rattle.model.proofs.FiledText.{one-filing}
 use Rattle.model.proofs.FiledVerdicts.{verdicts-hold}
 use Rattle.model.proofs.FiledCheck.{checking, one-figure}
+use Rattle.model.proofs.FiledReading.{grammar-filed}
 use Rattle.model.proofs.FiledPrinted.{printed-checks}
 use Rattle.model.proofs.FiledExamples.{filed-examples}
 use Rattle.model.proofs.Interface.{start-over, call-over, toggle-is-told, swap-is-told, stored-read, run-over}
@@ -104,6 +105,7 @@ promises =
         check-promises = checking;
         verdict-promises = λ bytes psf gray dots table s f c.
             verdicts-hold s f (c .is-filed .is-valid) (c .is-filed .is-given) (c .sum-low) (c .sum-high);
+        grammar-is-of-filed-sheets = grammar-filed;
         one-text-one-filing = one-filing;
         settle-prints-what-checks = printed-checks;
         no-other-figure-checks = one-figure;

@@ -17,10 +17,10 @@ use Rattle.model.specs.Refusal.{startRefusal}
 use Rattle.model.specs.State.{StateFits}
 use Rattle.model.specs.Calls.{result, refused, Outcome}
 use Rattle.model.specs.Lists.{Rest}
-use Rattle.model.specs.Sheet.{Sheet, cellsOf}
+use Rattle.model.specs.Sheet.{Sheet, cellsOf, Shaped}
 use Rattle.model.specs.SheetRefusal.{Leftmost}
 use Rattle.model.specs.Program.{sheetTarget, output}
-use Rattle.model.specs.Grammar.{DrawsText}
+use Rattle.model.specs.Grammar.{IsText, DrawsText}
 use Rattle.model.specs.Filed.{filedText, IsFiled, filedGrammar, filedRoom}
 use Rattle.model.specs.FiledExamples.{FiledExamples}
 use Rattle.model.specs.FiledCalls.{filedStats, verdictOf, CheckBuffers, laid, checkCall}
@@ -74,8 +74,9 @@ module _ (s : Sheet) (f : FiledFigures) where
   abbrev target : Target
   target = sheetTarget s
 
-  abbrev number : ℕ
-  number = startRefusal (s .measures) (s .psf) (s .gray) (s .dots) (cellsOf (s .measures))
+  -- with which a start would refuse it, 0 where none does
+  abbrev startNumber : ℕ
+  startNumber = startRefusal (s .measures) (s .psf) (s .gray) (s .dots) (cellsOf (s .measures))
 
   abbrev IsAtRest : Type 0
   IsAtRest = Rest target (s .measures .reach) (s .dots) (filteredErrors target (s .dots))
@@ -88,18 +89,23 @@ module _ (s : Sheet) (f : FiledFigures) where
         (StateFits target (s .dots) (filteredErrors target (s .dots)) (filedStats (s .dots) f))
     -- at rest exactly when no toggle and no swap within reach lowers the squared error; else one does; unless a start
     -- would refuse the sheet
-    pub rests-exactly : Exactly (verdictOf s f .rest ≡ Rests) ((number ≡ 0) × IsAtRest)
-    pub lowers-exactly : Exactly (verdictOf s f .rest ≡ Lowers) ((number ≡ 0) × (IsAtRest → ⊥))
+    pub rests-exactly : Exactly (verdictOf s f .rest ≡ Rests) ((startNumber ≡ 0) × IsAtRest)
+    pub lowers-exactly : Exactly (verdictOf s f .rest ≡ Lowers) ((startNumber ≡ 0) × (IsAtRest → ⊥))
     pub unstarted-exactly : (n : ℕ)
-        → Exactly (verdictOf s f .rest ≡ Unstarted n) ((number ≡ n) × (n ≡ 0 → ⊥))
+        → Exactly (verdictOf s f .rest ≡ Unstarted n) ((startNumber ≡ n) × (n ≡ 0 → ⊥))
     -- as long as 1 to 7 are all that a start refuses, none does
-    pub start-takes-it : number ≡ 0
+    pub start-takes-it : startNumber ≡ 0
 
 -- ---- all of them
 pub record FiledPromises : Type 0 where
   pub check-promises : (bytes psf gray dots : List ℕ) (table : List ℤ) → CheckPromises bytes psf gray dots table
   pub verdict-promises : (bytes psf gray dots : List ℕ) (table : List ℤ) (s : Sheet) (f : FiledFigures)
       → Checkable bytes psf gray dots table s f → VerdictPromises s f
+  -- the texts of the grammar, by which 10 and 11 are drawn, are those of filed sheets, their numbers of any size from a
+  -- width of 1 on
+  pub grammar-is-of-filed-sheets : (b : List ℕ)
+      → Exactly ((t : IsText filedGrammar b) × (1 ≤ t .measures .width))
+      ((s : Sheet) × (f : FiledFigures) × Shaped s × (1 ≤ s .measures .width) × (b ≡ filedText s f))
   -- no text is filed in two ways
   pub one-text-one-filing : (bytes : List ℕ) (s s′ : Sheet) (f f′ : FiledFigures)
       → IsFiled bytes s f → IsFiled bytes s′ f′ → (s ≡ s′) × (f ≡ f′)

@@ -107,13 +107,13 @@ module _ (g : Grammar) (room : Measures → Bool) (s : List ℕ) where
   abbrev pub belowEnd : Place
   belowEnd = ended s (placeOf belowRead)
 
-  abbrev pub taken : (refusal at : ℕ) → List ℕ → Taken
-  taken n o vs = record { refusal = n; at = o; measures = linesRead .measures; values = vs }
+  abbrev answer : (refusal at : ℕ) → List ℕ → Taken
+  answer n o vs = record { refusal = n; at = o; measures = linesRead .measures; values = vs }
 
   -- 12 stands after lines 1 and 2
   unfoldable pub readByGrammar : Taken
   readByGrammar =
       pick (eqb (linesRead .refusal) 0)
-      (pick (room (linesRead .measures)) (taken (belowEnd .refusal) (belowEnd .at) (belowRead .values))
-      (taken 12 (linesRead .at) []))
-      (taken (linesRead .refusal) (linesRead .at) [])
+      (pick (room (linesRead .measures)) (answer (belowEnd .refusal) (belowEnd .at) (belowRead .values))
+      (answer 12 (linesRead .at) []))
+      (answer (linesRead .refusal) (linesRead .at) [])

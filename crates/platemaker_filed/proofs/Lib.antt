@@ -1,1 +1,2 @@
+-- A law that the proofs of this crate use.
 pub mod Stored

@@ -34,7 +34,7 @@ read-head-requires c κs = search needs
 -- once lines 1 and 2 are read
 module _ (c : tie.After-read-head) where
   abbrev start : tie.Start
-  start = c .before .before .before .before .before
+  start = search
 
   abbrev bytes : List ℕ
   bytes = start .args .bytes .now
@@ -56,13 +56,13 @@ module _ (c : tie.After-read-head) where
 
 returns : tie.Need-returns
 returns c =
-    let k : tie.After-read-head = c .before .before in
+    let k : tie.After-read-head = search in
     answered (head-refused _ _ _ _ _ (h k) (k .read-head .ensures) (c .if1 .taken))
 
 -- they are not refused
 module _ (c : tie.Else1) where
   abbrev k : tie.After-read-head
-  k = c .before .before
+  k = search
 
   range : InRange (h k .measures)
   range = in-range (bytes k) (psf k) (gray k) (dots k) (table k) (h k) (k .read-head .ensures) (c .if1 .left)
@@ -72,7 +72,7 @@ has-filed-room-requires c κs = range (c .before)
 
 returns-2 : tie.Need-returns-2
 returns-2 c =
-    let e : tie.Else1 = c .before .before .before in
+    let e : tie.Else1 = search in
     answered
     (no-room _ _ _ _ _ (h (k e)) (k e .read-head .ensures) (e .if1 .left)
     (sym (c .before .has-filed-room .ensures) ∙ not-true _ (c .if2 .taken)))
@@ -80,7 +80,7 @@ returns-2 c =
 -- there is room
 module _ (c : tie.Else2) where
   abbrev read : tie.Else1
-  read = c .before .before .before
+  read = search
 
   abbrev b : tie.After-read-head
   b = k read
@@ -93,7 +93,7 @@ judge-filed-requires c κs = range (read c)
 
 returns-3 : tie.Need-returns-3
 returns-3 c =
-    let j : tie.After-judge-filed = c .before .before .before in
+    let j : tie.After-judge-filed = search in
     let r : tie.Else2 = j .before in
     answered
     (below-refused _ _ _ _ _ (h (b r)) (b r .read-head .ensures) (read r .if1 .left) (room r) (j .judge-filed .result)
@@ -102,7 +102,7 @@ returns-3 c =
 -- nothing that was read is refused
 module _ (c : tie.Else3) where
   abbrev j : tie.After-judge-filed
-  j = c .before .before .before
+  j = search
 
   abbrev r : tie.Else2
   r = j .before
@@ -135,7 +135,7 @@ returns-4 c =
 -- the sum is not 0
 module _ (c : tie.Else4) where
   abbrev n : tie.Else3
-  n = c .before .before
+  n = search
 
   sum-is : c .before .psf-sum .result ≡ total (sheet n .psf)
   sum-is = c .before .psf-sum .ensures
@@ -164,7 +164,7 @@ store-body-requires c κs =
 -- the sheet is stored
 module _ (c : tie.After-store-body) where
   abbrev v : tie.Else5
-  v = c .before .before .before .before
+  v = search
 
   abbrev w : tie.Else3
   w = n (e v)
@@ -178,7 +178,7 @@ module _ (c : tie.After-store-body) where
 
 judge-front-requires : tie.Need-judge-front-requires
 judge-front-requires c κs =
-    let k : tie.After-store-body = c .before .before .before .before .before .before .before .before .before .before in
+    let k : tie.After-store-body = search in
     let m = h (b (r (w k))) .measures in
     let good = whole (w k) in (
       (range (read (r (w k))), table-long good, figures-few good),
@@ -201,8 +201,7 @@ same-length-4 c = search needs
 returns-6 : tie.Need-returns-6
 returns-6 c =
     let f : tie.After-judge-front = c .before in
-    let k : tie.After-store-body =
-    f .before .before .before .before .before .before .before .before .before .before .before in
+    let k : tie.After-store-body = search in
     let done = answered (checked (whole (w k)) (low (v k)) (high (v k))) in
     let put = k .store-body .ensures in
     let verdict = f .judge-front .ensures .0 ∙ ap (λ x. verdictOf x (end (w k) .figures)) (stands k) in

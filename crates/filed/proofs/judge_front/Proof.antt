@@ -24,7 +24,7 @@ cells-requires c κs = search needs
 -- once the lengths are known
 module _ (c : tie.After-cells) where
   abbrev s : tie.Start
-  s = c .before .before .before .before .before
+  s = search
 
   entries-are : c .before .entries .result ≡ entriesOf (s .args .m)
   entries-are = c .before .entries .ensures .0
@@ -59,12 +59,12 @@ slice-aggregate-judge-plate c =
 
 slice-aggregate-judge-plate-2 : tie.Need-slice-aggregate-judge-plate-2
 slice-aggregate-judge-plate-2 c =
-    let k : tie.After-cells = c .before .before in
+    let k : tie.After-cells = search in
     part-long _ (cells-are k) (s k .pre .1 .halftone .gray-length)
 
 slice-aggregate-judge-plate-3 : tie.Need-slice-aggregate-judge-plate-3
 slice-aggregate-judge-plate-3 c =
-    let k : tie.After-cells = c .before .before .before in
+    let k : tie.After-cells = search in
     part-long _ (cells-are k) (s k .pre .1 .halftone .dots-length)
 
 slice-relend-prefix-judge-plate : tie.Need-slice-relend-prefix-judge-plate
@@ -72,12 +72,12 @@ slice-relend-prefix-judge-plate c = search needs
 
 slice-aggregate-judge-plate-4 : tie.Need-slice-aggregate-judge-plate-4
 slice-aggregate-judge-plate-4 c =
-    let k : tie.After-cells = c .before .before .before .before in
+    let k : tie.After-cells = search in
     part-long _ (cells-are k) (table-long k)
 
 judge-plate-requires : tie.Need-judge-plate-requires
 judge-plate-requires c κs =
-    let k : tie.After-cells = c .before .before .before .before in
+    let k : tie.After-cells = search in
     let long : cellsOf (s k .args .m) ≡ length (take (k .cells .result) (s k .args .table .now)) =
     sym (cells-are k) ∙ part-long _ (cells-are k) (table-long k) in
     let Fits : Sheet → ℕ → Type 0 = λ x. PlateFits (x .measures) (x .psf) (x .gray) (x .dots) in
@@ -89,7 +89,7 @@ same-length c = search needs
 returns : tie.Need-returns
 returns c =
     let j : tie.After-judge-plate = c .before in
-    let k : tie.After-cells = j .before .before .before .before .before in (
+    let k : tie.After-cells = search in (
       j .judge-plate .ensures .0 ∙ ap (λ x. verdictOf x (s k .args .f)) (lent-is k),
       put-front (s k .args .table .now) (cells-are k)
           (j .judge-plate .ensures .1 ∙ ap (λ x. filteredErrors (sheetTarget x) (x .dots)) (lent-is k))

@@ -26,7 +26,7 @@ filter-and-square-requires c κs = search needs
 -- once the table is filled
 module _ (c : tie.After-filter-and-square) where
   abbrev s : tie.Start
-  s = c .before .before .before .before .before
+  s = search
 
   abbrev target : Target
   target = targetFor (s .args .m) (s .args .psf .now) (s .args .gray .now)
@@ -57,13 +57,13 @@ module _ (c : tie.After-filter-and-square) where
 
 ledger-fits-requires : tie.Need-ledger-fits-requires
 ledger-fits-requires c κs =
-    let k : tie.After-filter-and-square = c .before .before in
+    let k : tie.After-filter-and-square = search in
     let f = s k .pre .0 .halftone in
     (subst (Fits k) (f .table-length ∙ sym (f .dots-length)) (s k .pre .0), (squared-is k, s k .pre .1))
 
 resting-requires : tie.Need-resting-requires
 resting-requires c κs =
-    let k : tie.After-filter-and-square = c .before .before .before .before in
+    let k : tie.After-filter-and-square = search in
     let f = s k .pre .0 .halftone in (
       subst (Fits k) (f .table-length ∙ sym (left-long k)) (s k .pre .0),
       (k .filter-and-square .ensures .0, squared-is k),
@@ -75,8 +75,8 @@ same-length c = search needs
 returns : tie.Need-returns
 unfolding verdictOf
 returns c =
-    let l : tie.After-ledger-fits = c .before .before in
-    let k : tie.After-filter-and-square = l .before .before .before in
+    let l : tie.After-ledger-fits = search in
+    let k : tie.After-filter-and-square = search in
     let a = s k .args in
     let rest = c .resting .ensures
     ∙ ap (λ n. restingOf (startRefusal (a .m) (a .psf .now) (a .gray .now) (a .dots .now) n)

@@ -26,12 +26,12 @@ squared-is : (s : tie.Start)
 squared-is s = read-back w64 (s .args .squared) (s .fits .squared .sfits) ∙ s .pre .1 .0
 
 sum-requires : tie.Need-sum-requires
-sum-requires c κs = few (c .before .before .before)
+sum-requires c κs = few search
 
 -- once the dots are counted
 module _ (c : tie.After-sum) where
   abbrev s : tie.Start
-  s = c .before .before .before .before
+  s = search
 
   -- gray is made of bytes
   bytes : AtMost 255 (s .args .gray .now)
@@ -61,7 +61,7 @@ judge-ledger-requires c κs =
 
 returns : tie.Need-returns
 returns c =
-    let k : tie.After-sum = c .before .before in
+    let k : tie.After-sum = search in
     ledger-by _ _ _ (c .judge-ledger .ensures) (s k .pre .0 .halftone .dots-length) (squared-is (s k))
     (k .sum .ensures) (c .before .filed-stats .ensures)
 

@@ -17,13 +17,13 @@ at-rest-requires c κs = search needs
 
 returns-2 : tie.Need-returns-2
 returns-2 c =
-    let e : tie.Else1 = c .before .before in
+    let e : tie.Else1 = search in
     started _ {b = true} (e .before .judge-start .ensures) (e .if1 .left)
     (sym (c .if2 .taken) ∙ c .before .at-rest .ensures)
 
 returns-3 : tie.Need-returns-3
 returns-3 c =
-    let e : tie.Else1 = c .before .before in
+    let e : tie.Else1 = search in
     started _ {b = false} (e .before .judge-start .ensures) (e .if1 .left)
     (sym (c .if2 .left) ∙ c .before .at-rest .ensures)
 

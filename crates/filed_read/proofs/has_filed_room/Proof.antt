@@ -16,7 +16,9 @@ cells-requires c κs = search needs
 
 returns-2 : tie.Need-returns-2
 returns-2 c =
-    let room = sym (c .before .before .has-room .ensures) ∙ not-false _ (c .before .if1 .left) in
+    let asked : tie.After-has-room = search in
+    let passed : tie.Else1 = search in
+    let room = sym (asked .has-room .ensures) ∙ not-false _ (passed .if1 .left) in
     rw (room, c .cells .ensures .0)
 
 pub has-filed-room-spec : {M : Type 1} → statement M

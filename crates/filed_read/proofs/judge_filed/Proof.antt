@@ -13,7 +13,8 @@ unread-requires c κs = search needs
 
 returns : tie.Need-returns
 returns c =
-    let a = c .before .before .before .before .before .args in
+    let s : tie.Start = search in
+    let a = s .args in
     let b : tie.After-judge-blocks = search in
     c .unread .ensures ∙ filed-refused (a .m) (a .s .now) (a .at) (b .judge-blocks .result) (b .judge-blocks .ensures)
     (c .before .if1 .taken)
@@ -26,7 +27,8 @@ judge-end-requires c κs = search needs
 
 returns-2 : tie.Need-returns-2
 returns-2 c =
-    let a = c .before .before .before .before .before .before .before .args in
+    let s : tie.Start = search in
+    let a = s .args in
     let b : tie.After-judge-blocks = search in
     let good : tie.Else1 = search in
     let lines : tie.After-read-figures = search in

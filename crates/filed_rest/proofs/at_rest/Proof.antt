@@ -44,32 +44,32 @@ module _ (s : tie.Start) where
       (s .pre .0, (s .pre .1 .0, read-back w64 (s .args .squared) (s .fits .squared .sfits) ∙ s .pre .1 .1))
 
 array-borrow-prefix-some-dots : tie.Need-array-borrow-prefix-some-dots
-array-borrow-prefix-some-dots c = few (c .before .before .before)
+array-borrow-prefix-some-dots c = few search
 
 slice-aggregate-copy-dots : tie.Need-slice-aggregate-copy-dots
-slice-aggregate-copy-dots c = part-whole _ _ (few (c .before .before .before .before))
+slice-aggregate-copy-dots c = part-whole _ _ (few search)
 
 copy-dots-requires : tie.Need-copy-dots-requires
-copy-dots-requires c κs = sym (part-whole _ _ (few (c .before .before .before .before)))
+copy-dots-requires c κs = sym (part-whole _ _ (few search))
 
 array-borrow-prefix-some-table : tie.Need-array-borrow-prefix-some-table
-array-borrow-prefix-some-table c = few (c .before .before .before .before .before .before)
+array-borrow-prefix-some-table c = few search
 
 slice-aggregate-copy-table : tie.Need-slice-aggregate-copy-table
-slice-aggregate-copy-table c = part-whole _ _ (few (c .before .before .before .before .before .before .before))
+slice-aggregate-copy-table c = part-whole _ _ (few search)
 
 copy-table-requires : tie.Need-copy-table-requires
 copy-table-requires c κs =
-    let s : tie.Start = c .before .before .before .before .before .before .before in
+    let s : tie.Start = search in
     sym (part-whole _ _ (few s)) ∙ sym (alike s)
 
 -- once both are copied
 module _ (c : tie.After-copy-table) where
   abbrev k : tie.After-copy-dots
-  k = c .before .before .before
+  k = search
 
   abbrev s : tie.Start
-  s = k .before .before .before .before .before
+  s = search
 
   dots-long : length (k .copy-dots .last .1 .0) ≡ length (dots s)
   dots-long = ap length (k .copy-dots .ensures)
@@ -88,24 +88,24 @@ array-borrow-prefix-some-dots-2 : tie.Need-array-borrow-prefix-some-dots-2
 array-borrow-prefix-some-dots-2 c = simp length-append (omega (arith, dots-long (c .before)))
 
 slice-aggregate-scans-clear : tie.Need-slice-aggregate-scans-clear
-slice-aggregate-scans-clear c = part-whole _ _ (simp length-append (omega (arith, dots-long (c .before .before))))
+slice-aggregate-scans-clear c = part-whole _ _ (simp length-append (omega (arith, dots-long search)))
 
 array-borrow-prefix-some-table-2 : tie.Need-array-borrow-prefix-some-table-2
-array-borrow-prefix-some-table-2 c = simp length-append (omega (arith, table-long (c .before .before)))
+array-borrow-prefix-some-table-2 c = simp length-append (omega (arith, table-long search))
 
 slice-aggregate-scans-clear-2 : tie.Need-slice-aggregate-scans-clear-2
 slice-aggregate-scans-clear-2 c =
-    part-whole _ _ (simp length-append (omega (arith, table-long (c .before .before .before))))
+    part-whole _ _ (simp length-append (omega (arith, table-long search)))
 
 scans-clear-requires : tie.Need-scans-clear-requires
 scans-clear-requires c κs =
-    let b : tie.After-copy-table = c .before .before .before in
+    let b : tie.After-copy-table = search in
     asked (s b) (dots-part b _) (table-part b _)
 
 returns : tie.Need-returns
 returns c =
-    let k : tie.After-scans-clear = c .before .before in
-    let b : tie.After-copy-table = k .before .before .before .before in
+    let k : tie.After-scans-clear = search in
+    let b : tie.After-copy-table = search in
     let m = s b .args .m in
     k .scans-clear .ensures
     ∙ ap (rests (targetFor m (s b .args .psf .now) (s b .args .gray .now)) (m .reach)) (dots-part b _)

@@ -33,7 +33,7 @@ slice-aggregate-toggle-all c = search needs
 -- once the ledger is made
 module _ (c : tie.After-fresh) where
   abbrev s : tie.Start
-  s = c .before .before .before .before .before .before
+  s = search
 
   -- gray is made of bytes
   bytes : AtMost 255 (s .args .gray .now)
@@ -56,17 +56,17 @@ same-length-2 c = search needs
 
 returns : tie.Need-returns
 returns c =
-    let a : tie.After-toggle-all = c .before .before .before .before .before in
-    let f : tie.After-fresh = a .before .before .before .before in
+    let a : tie.After-toggle-all = search in
+    let f : tie.After-fresh = search in
     not-at-rest (s f .args .m) _ _ _ (f .fresh .ensures) (a .toggle-all .ensures .0) _ (c .if1 .taken)
 
 -- where the toggle scan accepts nothing
 module _ (c : tie.Else1) where
   abbrev a : tie.After-toggle-all
-  a = c .before .before .before .before .before
+  a = search
 
   abbrev f : tie.After-fresh
-  f = a .before .before .before .before
+  f = search
 
   abbrev left : List ℕ
   left = a .toggle-all .last .1 .1 .1 .1 .0
@@ -86,7 +86,7 @@ slice-aggregate-swap-all c = search needs
 
 swap-all-requires : tie.Need-swap-all-requires
 swap-all-requires c κs =
-    let e : tie.Else1 = c .before .before .before in
+    let e : tie.Else1 = search in
     (same e .0, f e .before .before .kernel .ensures)
 
 same-length-3 : tie.Need-same-length-3
@@ -97,10 +97,10 @@ same-length-4 c = search needs
 
 returns-2 : tie.Need-returns-2
 returns-2 c =
-    let w : tie.After-swap-all = c .before .before .before .before in
-    let e : tie.Else1 = w .before .before .before .before in
-    swaps-decide (s (f e) .args .m) _ _ _ (f e .fresh .ensures) (a e .toggle-all .ensures .0) _ (e .if1 .left) (same e .1)
-    (w .swap-all .ensures .0)
+    let w : tie.After-swap-all = search in
+    let e : tie.Else1 = search in
+    swaps-decide (s (f e) .args .m) _ _ _ (f e .fresh .ensures) (a e .toggle-all .ensures .0) _ (e .if1 .left)
+    (same e .1) (w .swap-all .ensures .0)
 
 pub scans-clear-spec : {M : Type 1} → statement M
 scans-clear-spec =
