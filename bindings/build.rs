@@ -1,5 +1,4 @@
-//! Links the static library: from the folder that PLATEMAKER_LIBRARY names, else from where `rt staticlib platemaker` puts
-//! it.
+//! Links the static library: from the folder that PLATEMAKER_LIBRARY names, else from where `make lib` has it proved.
 
 use std::env;
 use std::path::PathBuf;

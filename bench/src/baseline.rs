@@ -4,7 +4,7 @@
 mod search;
 mod sums;
 
-use crate::plate::{Job, Plate, Side, ERROR, OFF, ON, START_DOTS};
+use crate::plate::{Job, Plate, Side, STATS_ERROR, STATS_OFF, STATS_ON, STATS_START_DOTS};
 
 /// With `any_first`, a swap scan goes through the partners of a cell only where a quick pass says that one will do.
 pub struct Baseline {
@@ -15,8 +15,8 @@ pub struct Baseline {
 pub fn judge(job: &Job, plate: &Plate) -> bool {
     let mut table = vec![0; job.cells()];
     let error = sums::table_and_squared_error(job, &plate.dots, &mut table);
-    let dots = plate.stats[START_DOTS] + plate.stats[ON] - plate.stats[OFF];
-    table == plate.table && error == plate.stats[ERROR] && dots == count_dots(&plate.dots)
+    let dots = plate.stats[STATS_START_DOTS] + plate.stats[STATS_ON] - plate.stats[STATS_OFF];
+    table == plate.table && error == plate.stats[STATS_ERROR] && dots == count_dots(&plate.dots)
 }
 
 /// The first bits of row and column weigh most.
@@ -78,12 +78,12 @@ impl Side for Baseline {
     fn try_toggle(&self, job: &Job, plate: &mut Plate, row: usize, col: usize) -> i64 {
         let c = sums::autocorrelation(job.radius, &job.psf);
         let cell = row * job.width + col;
-        let (sign, count) = if plate.dots[cell] == 0 { (1, ON) } else { (-1, OFF) };
+        let (sign, count) = if plate.dots[cell] == 0 { (1, STATS_ON) } else { (-1, STATS_OFF) };
         let peak = i64::from(c[c.len() / 2]);
         let change = 255 * (2 * sign * i64::from(plate.table[cell]) + 255 * peak);
         if change < 0 {
             turn(job, plate, row, col, &c);
-            plate.stats[ERROR] += change;
+            plate.stats[STATS_ERROR] += change;
             plate.stats[count] += 1;
         }
         change

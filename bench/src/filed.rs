@@ -4,8 +4,9 @@
 use crate::input;
 use crate::library::Library;
 use crate::measure::{job, median, Outcome, Scale};
-use crate::plate::{Job, Plate, Side, ERROR};
-use platemaker::{Measures, AGREES, FITS, MEASURES, RESTS, SQUARED, VERDICT};
+use crate::plate::{Job, Plate, Side, STATS_ERROR};
+use platemaker::{Measures, MAX_PSF, MAX_SHEET, MEASURES};
+use platemaker::{VERDICT, VERDICT_AGREES, VERDICT_FITS, VERDICT_RESTS, VERDICT_SQUARED};
 use std::time::{Duration, Instant};
 
 /// A settled plate as text: the sheet, and all of it with its two lines.
@@ -21,10 +22,10 @@ fn file(job: Job) -> Filed {
     Library.start(&job, &mut plate);
     let scans = Library.settle(&job, &mut plate);
     let Job { width, height, radius, reach, .. } = job;
-    let measures = Measures { width, height, radius, reach, start: 2 };
-    let (mut sheet, mut length, mut offset) = (vec![0; 1 << 20], 0, 0);
+    let measures = Measures { width, height, radius, reach, start: 2 }.numbers();
+    let (mut sheet, mut length, mut offset) = (vec![0; MAX_SHEET], 0, 0);
     let (psf, gray) = (&job.psf, &job.gray);
-    let status = platemaker::write_sheet(measures, psf, gray, &plate.dots, &mut sheet, &mut length, &mut offset);
+    let status = platemaker::write_sheet(&measures, psf, gray, &plate.dots, &mut sheet, &mut length, &mut offset);
     assert!(status == 0, "write_sheet refused with {status}");
     sheet.truncate(length);
     let [before, error, _, on, off, swaps] = plate.stats;
@@ -36,13 +37,14 @@ fn file(job: Job) -> Filed {
 /// Whether the figure is that of the dots, and the dots are at rest; and how long that took.
 fn check(filed: &Filed) -> (bool, Duration) {
     let cells = filed.job.cells();
-    let (mut psf, mut gray, mut dots, mut table) = ([0; 49], vec![0; cells], vec![0; cells], vec![0; cells]);
+    let (mut psf, mut gray, mut dots, mut table) = ([0; MAX_PSF], vec![0; cells], vec![0; cells], vec![0; cells]);
     let (mut verdict, mut offset) = ([0; VERDICT], 0);
     let begun = Instant::now();
     let status =
         platemaker::check_filed(&filed.whole, &mut psf, &mut gray, &mut dots, &mut table, &mut verdict, &mut offset);
     let time = begun.elapsed();
-    let good = verdict[SQUARED] == filed.error && [AGREES, FITS, RESTS].iter().all(|&place| verdict[place] == 1);
+    let good = verdict[VERDICT_SQUARED] == filed.error
+        && [VERDICT_AGREES, VERDICT_FITS, VERDICT_RESTS].iter().all(|&place| verdict[place] == 1);
     (status == 0 && good, time)
 }
 
@@ -57,7 +59,7 @@ fn settle_again(filed: &Filed) -> (bool, Duration) {
     let [width, height, radius, reach, kind] = measures;
     let job = Job { width, height, radius, reach, kind, psf, gray };
     Library.start(&job, &mut plate);
-    let same = plate.stats[ERROR] == filed.error;
+    let same = plate.stats[STATS_ERROR] == filed.error;
     let scans = Library.settle(&job, &mut plate);
     (status == 0 && same && scans == 2, begun.elapsed())
 }

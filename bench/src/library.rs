@@ -2,12 +2,13 @@
 //! refused.
 
 use crate::plate::{Job, Plate, Side};
-use platemaker::Measures;
+use platemaker::{Measures, MEASURES};
 
 pub struct Library;
 
-fn measures(job: &Job) -> Measures {
-    Measures { width: job.width, height: job.height, radius: job.radius, reach: job.reach, start: job.kind }
+fn measures(job: &Job) -> [usize; MEASURES] {
+    let &Job { width, height, radius, reach, kind, .. } = job;
+    Measures { width, height, radius, reach, start: kind }.numbers()
 }
 
 fn expect_done(name: &str, status: u32) {
@@ -17,13 +18,13 @@ fn expect_done(name: &str, status: u32) {
 impl Side for Library {
     fn start(&self, job: &Job, plate: &mut Plate) {
         let Plate { dots, table, stats } = plate;
-        expect_done("start", platemaker::start(measures(job), &job.psf, &job.gray, dots, table, stats));
+        expect_done("start", platemaker::start(&measures(job), &job.psf, &job.gray, dots, table, stats));
     }
 
     fn settle(&self, job: &Job, plate: &mut Plate) -> u64 {
         let Plate { dots, table, stats } = plate;
         let mut scans = 0;
-        let status = platemaker::converge(measures(job), &job.psf, &job.gray, dots, table, stats, &mut scans);
+        let status = platemaker::converge(&measures(job), &job.psf, &job.gray, dots, table, stats, &mut scans);
         expect_done("converge", status);
         scans
     }
@@ -31,7 +32,7 @@ impl Side for Library {
     fn try_toggle(&self, job: &Job, plate: &mut Plate, row: usize, col: usize) -> i64 {
         let Plate { dots, table, stats } = plate;
         let (m, mut change) = (measures(job), 0);
-        let status = platemaker::try_toggle(m, &job.psf, &job.gray, dots, table, stats, row, col, &mut change);
+        let status = platemaker::try_toggle(&m, &job.psf, &job.gray, dots, table, stats, row, col, &mut change);
         expect_done("try_toggle", status);
         change
     }

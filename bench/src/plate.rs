@@ -1,6 +1,6 @@
 //! What both sides work on: a job (measures, psf, gray), a plate (dots, table, stats), and the calls that are measured.
 
-pub use platemaker::{ERROR, OFF, ON, START_DOTS, STATS, SWAPS};
+pub use platemaker::{STATS, STATS_ERROR, STATS_OFF, STATS_ON, STATS_START_DOTS, STATS_SWAPS};
 
 /// The ledger, in the order of the C interface; the first is the squared error at the start.
 pub type Stats = [i64; STATS];

@@ -1,52 +1,73 @@
 //! The library platemaker for Rust. Each function of include/platemaker.h has a safe one here, without `pm_` in its name:
-//! a slice stands for a pointer and a length, a `&mut` number for a result. It answers 0, or the refusal number of
-//! document 01 (docs/GUIDE.md lists them). On a refusal nothing that was lent changes, save the offset of the three
+//! a slice stands for a pointer and a length, a `&mut` number for a result. It answers 0, or a refusal number
+//! ([`refusal_text`] has words for it). On a refusal nothing that was lent changes, save the offset of the three
 //! functions for sheets.
 //!
-//! Build the static library first, with `rt staticlib platemaker`.
+//! The calls on a plate, [`start`] to [`converge`] and [`write_sheet`], take the measures first. They draw 5 where
+//! these are not [`MEASURES`] numbers, before all else, and then 1 to 4 by these numbers.
+//!
+//! `make lib` builds the library; this crate links the static one.
 //!
 //! ```
-//! use platemaker::{converge, start, Measures, ERROR, STATS};
+//! use platemaker::{converge, start, Measures, STATS, STATS_ERROR};
 //!
-//! let measures = Measures { width: 2, height: 1, radius: 1, reach: 1, start: 0 };
+//! let measures = Measures { width: 2, height: 1, radius: 1, reach: 1, start: 0 }.numbers();
 //! let (psf, gray) = ([0, 0, 0, 1, 2, 1, 0, 0, 0], [100, 100]);
 //! let (mut dots, mut table, mut stats, mut scans) = ([0; 2], [0; 2], [0; STATS], 0);
-//! assert_eq!(start(measures, &psf, &gray, &mut dots, &mut table, &mut stats), 0);
-//! assert_eq!(converge(measures, &psf, &gray, &mut dots, &mut table, &mut stats, &mut scans), 0);
-//! assert_eq!((dots, stats[ERROR], scans), ([1, 0], 80_150, 3));
+//! assert_eq!(start(&measures, &psf, &gray, &mut dots, &mut table, &mut stats), 0);
+//! assert_eq!(converge(&measures, &psf, &gray, &mut dots, &mut table, &mut stats, &mut scans), 0);
+//! assert_eq!((dots, stats[STATS_ERROR], scans), ([1, 0], 80_150, 3));
 //! ```
 
 #![allow(clippy::too_many_arguments)]
 
 mod header;
+mod refusal;
 
-/// The numbers in stats: the squared error at the start and now, the dots at the start, toggles on, toggles off, swaps.
-pub const START_ERROR: usize = 0;
-pub const ERROR: usize = 1;
-pub const START_DOTS: usize = 2;
-pub const ON: usize = 3;
-pub const OFF: usize = 4;
-pub const SWAPS: usize = 5;
-/// How many numbers there are in stats.
-pub const STATS: usize = 6;
+pub use refusal::*;
 
-/// The numbers in measures, which [`read_sheet`] fills.
-pub const WIDTH: usize = 0;
-pub const HEIGHT: usize = 1;
-pub const RADIUS: usize = 2;
-pub const REACH: usize = 3;
-pub const START: usize = 4;
+/// The version of the header that this crate follows, in words and as a number: 1,000,000 * major + 1,000 * minor +
+/// patch.
+pub const VERSION_TEXT: &str = "1.0.0";
+pub const VERSION: u32 = 1_000_000;
+
+/// Sizes that suffice for every plate: width, and height; cells; the entries of a psf; the bytes of a sheet and of a
+/// filed sheet; those of a PBM and of a PGM as they are written.
+pub const MAX_SIDE: usize = 256;
+pub const MAX_CELLS: usize = 65_536;
+pub const MAX_PSF: usize = 49;
+pub const MAX_SHEET: usize = 393_472;
+pub const MAX_FILED: usize = 393_624;
+pub const MAX_PBM: usize = 8_203;
+pub const MAX_PGM: usize = 65_551;
+
+/// The numbers in measures, as [`Measures`] has them.
+pub const MEASURE_WIDTH: usize = 0;
+pub const MEASURE_HEIGHT: usize = 1;
+pub const MEASURE_RADIUS: usize = 2;
+pub const MEASURE_REACH: usize = 3;
+pub const MEASURE_START: usize = 4;
 /// How many numbers there are in measures.
 pub const MEASURES: usize = 5;
 
+/// The numbers in stats: the squared error at the start and now, the dots at the start, toggles on, toggles off, swaps.
+pub const STATS_START_ERROR: usize = 0;
+pub const STATS_ERROR: usize = 1;
+pub const STATS_START_DOTS: usize = 2;
+pub const STATS_ON: usize = 3;
+pub const STATS_OFF: usize = 4;
+pub const STATS_SWAPS: usize = 5;
+/// How many numbers there are in stats.
+pub const STATS: usize = 6;
+
 /// The numbers in verdict, which [`check_filed`] fills: the squared error as filed, and by the sum; whether these are
 /// equal, whether the ledger fits and whether the plate rests, each 1 or 0; width * height.
-pub const FIGURE: usize = 0;
-pub const SQUARED: usize = 1;
-pub const AGREES: usize = 2;
-pub const FITS: usize = 3;
-pub const RESTS: usize = 4;
-pub const CELLS: usize = 5;
+pub const VERDICT_FIGURE: usize = 0;
+pub const VERDICT_SQUARED: usize = 1;
+pub const VERDICT_AGREES: usize = 2;
+pub const VERDICT_FITS: usize = 3;
+pub const VERDICT_RESTS: usize = 4;
+pub const VERDICT_CELLS: usize = 5;
 /// How many numbers there are in verdict.
 pub const VERDICT: usize = 6;
 
@@ -61,20 +82,30 @@ pub struct Measures {
     pub start: usize,
 }
 
+impl Measures {
+    /// The numbers that the calls on a plate take, and that [`read_sheet`] fills.
+    pub fn numbers(self) -> [usize; MEASURES] {
+        [self.width, self.height, self.radius, self.reach, self.start]
+    }
+}
+
 impl From<[usize; MEASURES]> for Measures {
-    fn from(numbers: [usize; MEASURES]) -> Measures {
-        Measures {
-            width: numbers[WIDTH],
-            height: numbers[HEIGHT],
-            radius: numbers[RADIUS],
-            reach: numbers[REACH],
-            start: numbers[START],
-        }
+    fn from([width, height, radius, reach, start]: [usize; MEASURES]) -> Measures {
+        Measures { width, height, radius, reach, start }
     }
 }
 
 // SAFETY of every call below: a pointer is that of a slice or of a number, so it is not null, and comes with the slice's own
 // length. What is written overlaps nothing else, since it is borrowed mutably; what is only read may be one slice twice.
+
+/// The version of the library that is linked: [`VERSION`] where crate and library belong together.
+///
+/// ```
+/// assert_eq!(platemaker::version(), platemaker::VERSION);
+/// ```
+pub fn version() -> u32 {
+    unsafe { header::pm_version() }
+}
 
 /// The autocorrelation of a psf: (4 * radius + 1)^2 numbers, row by row, offsets rising from -2 * radius. Draws 2, 5, 6.
 pub fn autocorrelation(radius: usize, psf: &[u8], out: &mut [i32]) -> u32 {
@@ -134,12 +165,12 @@ pub fn squared_error(
     }
 }
 
-/// Declares the calls on a plate. Each takes all measures and the plate's slices, then what is its own.
+/// Declares the calls on a plate. Each takes the measures and the plate's slices, then what is its own.
 macro_rules! plate_calls {
     ($($(#[$doc:meta])* $name:ident, $function:ident($($own:ident: $type:ty),*);)*) => {
         $($(#[$doc])*
         pub fn $name(
-            measures: Measures,
+            measures: &[usize],
             psf: &[u8],
             gray: &[u8],
             dots: &mut [u8],
@@ -149,11 +180,8 @@ macro_rules! plate_calls {
         ) -> u32 {
             unsafe {
                 header::$function(
-                    measures.width,
-                    measures.height,
-                    measures.radius,
-                    measures.reach,
-                    measures.start,
+                    measures.as_ptr(),
+                    measures.len(),
                     psf.as_ptr(),
                     psf.len(),
                     gray.as_ptr(),
@@ -223,9 +251,21 @@ pub fn read_sheet(
 }
 
 /// Writes a sheet with start 2 to the front of out, and its length. Draws 1 to 5, 7, and 12 where out is too short. The
-/// offset is written only on a refusal, the length only on success.
+/// offset is written only on a refusal: the length of out with 12, else 0. The length is written only on success.
+///
+/// ```
+/// use platemaker::{read_sheet, write_sheet, Measures, MEASURES};
+///
+/// let measures = Measures { width: 2, height: 1, radius: 0, reach: 1, start: 2 };
+/// let (mut out, mut length, mut offset) = ([0; 80], 0, 0);
+/// assert_eq!(write_sheet(&measures.numbers(), &[1], &[100, 90], &[1, 0], &mut out, &mut length, &mut offset), 0);
+/// assert_eq!(&out[..length], b"width height radius reach start\n2 1 0 1 2\npsf\n1\ngray\n100 90\ndots\n1 0\n");
+/// let (mut psf, mut gray, mut dots, mut read) = ([0; 1], [0; 2], [0; 2], [0; MEASURES]);
+/// assert_eq!(read_sheet(&out[..length], &mut psf, &mut gray, &mut dots, &mut read, &mut offset), 0);
+/// assert_eq!(Measures::from(read), measures);
+/// ```
 pub fn write_sheet(
-    measures: Measures,
+    measures: &[usize],
     psf: &[u8],
     gray: &[u8],
     dots: &[u8],
@@ -235,11 +275,8 @@ pub fn write_sheet(
 ) -> u32 {
     unsafe {
         header::pm_write_sheet(
-            measures.width,
-            measures.height,
-            measures.radius,
-            measures.reach,
-            measures.start,
+            measures.as_ptr(),
+            measures.len(),
             psf.as_ptr(),
             psf.len(),
             gray.as_ptr(),
@@ -259,7 +296,7 @@ pub fn write_sheet(
 /// of another length than [`VERDICT`]), 10, 11, 12 and 6 with the byte offset, which is written only then.
 ///
 /// ```
-/// use platemaker::{check_filed, AGREES, FITS, RESTS, VERDICT};
+/// use platemaker::{check_filed, VERDICT, VERDICT_AGREES, VERDICT_FITS, VERDICT_RESTS};
 ///
 /// let filed = b"width height radius reach start\n2 1 1 1 2\npsf\n0 0 0\n1 2 1\n0 0 0\ngray\n100 100\ndots\n1 0\n\
 ///     before after on off swaps scans\n200000 80150 1 0 0 3\n";
@@ -267,7 +304,7 @@ pub fn write_sheet(
 /// let (mut verdict, mut offset) = ([0; VERDICT], 0);
 /// assert_eq!(check_filed(filed, &mut psf, &mut gray, &mut dots, &mut table, &mut verdict, &mut offset), 0);
 /// assert_eq!(verdict, [80_150, 80_150, 1, 1, 1, 2]);
-/// assert_eq!((verdict[AGREES], verdict[FITS], verdict[RESTS]), (1, 1, 1));
+/// assert_eq!((verdict[VERDICT_AGREES], verdict[VERDICT_FITS], verdict[VERDICT_RESTS]), (1, 1, 1));
 /// assert_eq!(table, [530, 20]);
 /// ```
 pub fn check_filed(

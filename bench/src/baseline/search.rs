@@ -3,7 +3,7 @@
 //! |T| is below 2^28, so one comparison of keys tells whether a partner is on the plate, has the other dot and lowers E.
 
 use super::sums::autocorrelation;
-use crate::plate::{Job, Plate, Stats, ERROR, OFF, ON, SWAPS};
+use crate::plate::{Job, Plate, Stats, STATS_ERROR, STATS_OFF, STATS_ON, STATS_SWAPS};
 
 const DOT: i32 = 1 << 30;
 const EDGE: i32 = 1 << 29;
@@ -188,8 +188,8 @@ impl<const LANES: usize, const ANY_FIRST: bool> Search<LANES, ANY_FIRST> {
     }
 
     fn toggle(&mut self, m: usize, key: i32) {
-        let (t, count) = if is_dot(key) { (DOT - key, OFF) } else { (key, ON) };
-        self.stats[ERROR] += 255 * (2 * i64::from(t) + 255 * i64::from(self.peak));
+        let (t, count) = if is_dot(key) { (DOT - key, STATS_OFF) } else { (key, STATS_ON) };
+        self.stats[STATS_ERROR] += 255 * (2 * i64::from(t) + 255 * i64::from(self.peak));
         self.stats[count] += 1;
         self.turn(m);
     }
@@ -198,8 +198,8 @@ impl<const LANES: usize, const ANY_FIRST: bool> Search<LANES, ANY_FIRST> {
         let n = m - self.reach_back + partner.at as usize;
         let (blank, dot) = if is_dot(self.keys[m]) { (n, m) } else { (m, n) };
         let gain = i64::from(self.keys[blank]) - i64::from(self.keys[dot] - DOT);
-        self.stats[ERROR] += 510 * (gain + i64::from(partner.worth));
-        self.stats[SWAPS] += 1;
+        self.stats[STATS_ERROR] += 510 * (gain + i64::from(partner.worth));
+        self.stats[STATS_SWAPS] += 1;
         self.turn(m);
         self.turn(n);
     }

@@ -43,6 +43,7 @@ pub mod GrammarRefused
 pub mod Sheet
 pub mod Sections
 pub mod Leftmost
+pub mod Longest
 pub mod Program
 pub mod Printed
 -- Pictures: plates and shading as Netpbm files

@@ -26,7 +26,10 @@ use Rattle.model.proofs.FiledCheck.{checking, one-figure}
 use Rattle.model.proofs.FiledReading.{grammar-filed}
 use Rattle.model.proofs.FiledPrinted.{printed-checks}
 use Rattle.model.proofs.FiledExamples.{filed-examples}
-use Rattle.model.proofs.Interface.{start-over, call-over, toggle-is-told, swap-is-told, stored-read, run-over}
+use Rattle.model.proofs.Longest.{sheet-most, writing-is-long, filed-most}
+use Rattle.model.proofs.Interface.{counted, not-counted, measures-draw, ledger-draws}
+use Rattle.model.proofs.Interface.{start-over, call-over, over-other-count, call-over-other-count}
+use Rattle.model.proofs.Interface.{toggle-is-told, swap-is-told, measures-read, stored-read, run-over}
 use Rattle.model.proofs.Examples.{examples, one-sided}
 
 pub promises : Promises
@@ -107,17 +110,29 @@ promises =
             verdicts-hold s f (c .is-filed .is-valid) (c .is-filed .is-given) (c .sum-low) (c .sum-high);
         grammar-is-of-filed-sheets = grammar-filed;
         one-text-one-filing = one-filing;
+        filed-sheets-are-short = filed-most;
         settle-prints-what-checks = printed-checks;
         no-other-figure-checks = one-figure;
         filed-examples-hold = filed-examples;
       };
-      interface-promises = λ m psf gray. record {
+      sheets-are-short = sheet-most;
+      so-many-bytes-suffice = writing-is-long;
+      interface-promises = λ measures psf gray. record {
+        stored-measures-read-back = measures-read;
         stored-stats-read-back = stored-read;
-        start-takes-its-slice = start-over m psf gray;
-        calls-take-their-slice = call-over m psf gray;
-        toggle-is-told = toggle-is-told m psf gray;
-        swap-is-told = swap-is-told m psf gray;
-        interface-lists-are-lists = run-over m psf gray;
+        start-takes-its-slices = start-over measures psf gray;
+        calls-take-their-slices = call-over measures psf gray;
+        reading-takes-its-slice = λ bytes dots. counted _ measures _ _;
+        writing-takes-its-slice = λ dots out. counted _ measures out _;
+        start-wants-all-measures = λ dots table stats h. over-other-count measures psf gray dots table stats h _;
+        calls-want-all-measures = call-over-other-count measures psf gray;
+        measures-are-judged-next = measures-draw measures;
+        ledger-is-counted-last = ledger-draws measures;
+        reading-wants-all-measures = λ bytes dots. not-counted _ measures _ _;
+        writing-wants-all-measures = λ dots out. not-counted _ measures out _;
+        toggle-is-told = toggle-is-told measures psf gray;
+        swap-is-told = swap-is-told measures psf gray;
+        interface-lists-are-lists = run-over measures psf gray;
       };
       examples-hold = examples;
       half-peak-is-one-sided = one-sided;

@@ -42,7 +42,8 @@ use Rattle.model.proofs.Converge.{converge-keeps, converge-rest}
 use Rattle.model.proofs.Text.{digits-apart}
 use Rattle.model.proofs.Sheet.{read-exactly, read-back, same-text, cells-fit}
 use Rattle.model.proofs.Leftmost.{refused-is-leftmost, leftmost-is-refused, read-draws-nothing}
-use Rattle.model.proofs.Program.{text-most, output-long, output-is, few}
+use Rattle.model.proofs.Longest.{text-most}
+use Rattle.model.proofs.Program.{output-long, output-is, few}
 
 -- ---- the text of a refusal
 -- no two refusals have the same
@@ -195,7 +196,8 @@ module _ (s : Sheet) (v : Valid s) where
     taken-again small n o (tooLong h) =
         let w = writtenSheet m (s .psf) (s .gray) (convergedFrom s .after .dots) in
         let v = written-valid in
-        let most = text-most w (v .in-range) (v .shaped) small 0 1 (lit< tt) (v .psf-most) (v .gray-most) (v .dots-most) in
+        let most = text-most w (v .in-range) (v .shaped) 4096 small 0 1 (lit< tt) (v .psf-most) (v .gray-most)
+        (v .dots-most) in
         omega (arith, h, most)
     taken-again small n o (unread short l) =
         let w = writtenSheet m (s .psf) (s .gray) (convergedFrom s .after .dots) in

@@ -1,125 +1,27 @@
 -- Laws of what the program prints.
---   text-most                    how long a sheet of at most 4,096 cells is at most: 24,842 bytes with dots 0 and 1
 --   output-long                  more than 32,768 bytes draw 13
 --   output-is                    else the output is the text of what was read
 --   output-refused, output-read  a refusal; or what is made of the sheet at the front of the buffers
 use mathlib.Core.Path.{_≡_, refl, _∙_, ap, ap₂, sym, subst}
 use mathlib.Core.Bool.{Bool, true, false}
-use mathlib.Core.List.{List, [], _∷_, _++_}
-use Prim.Native.Nat.{ℕ, zero, suc, _+_, _*_, _^_, _≤_, _<_}
-use native.Mathlib.Nat.{mul-suc, mul-le-mul-left}
+use mathlib.Core.List.{List, [], _∷_}
+use Prim.Native.Nat.{ℕ, zero, suc, _≤_, _<_}
 use native.Mathlib.Omega.{arith}
 use borrow.Author.Tests.{lt-ltb, le-ltb, leb-true, eqb-true}
 use lib.Dec.{leb, eqb}
 use lib.IntN.{pos}
-use lib.ListN.{length, getD, take, replicate, length-append, length-replicate}
+use lib.ListN.{length, take, replicate, length-replicate}
 use lib.Seq.{sets}
 use Rattle.model.specs.declared.Measures.{Measures}
-use Rattle.model.specs.Basic.{AtMost}
-use Rattle.model.specs.Text.{digits}
-use Rattle.model.specs.Sheet.{Sheet, sideOf, entriesOf, cellsOf, row, rows, names, psfName, grayName, dotsName}
-use Rattle.model.specs.Sheet.{valuesOf, dotsText, sheetText, Shaped, InRange, Valid, gridLength, roomFor}
+use Rattle.model.specs.Sheet.{Sheet, entriesOf, cellsOf}
+use Rattle.model.specs.Sheet.{InRange, Valid, roomFor}
 use Rattle.model.specs.Format.{Read, readSheet}
 use Rattle.model.specs.SheetCalls.{SheetBuffers, outcomeOf, readCall}
 use Rattle.model.specs.Calls.{result, refused, Outcome}
 use Rattle.model.specs.Program.{refusedText, processedText, handedDots, readText, output}
-use Rattle.model.proofs.Basic.{at-most-tail}
-use Rattle.model.proofs.Text.{length-most, and-true}
-use Rattle.model.proofs.Rows.{rows-grid, grid-length}
+use Rattle.model.proofs.Text.{and-true}
 use Rattle.model.proofs.Calls.{no-result}
-use Rattle.model.proofs.Sheet.{read-exactly, entries-most, front}
-
--- ---- how long a sheet is at most
--- values of at most j + 1 digits
-grid-most : (j k : ℕ) → k < 10 ^ suc j → (vs : List ℕ) → AtMost k vs → gridLength vs ≤ (j + 2) * length vs
-grid-most j k h [] a = omega arith
-grid-most j k h (v ∷ vs) a =
-    let l = length-most j v (omega (arith, h, a .each 0)) in
-    rw (mul-suc (j + 2) (length vs)) (omega (arith, l, grid-most j k h vs (at-most-tail a)))
-
-row-length : (v : ℕ) (vs : List ℕ) → length (row (v ∷ vs)) ≡ gridLength (v ∷ vs)
-row-length v [] = length-append (digits v) (10 ∷ []) ∙ omega arith
-row-length v (u ∷ vs) =
-    length-append (digits v) (32 ∷ row (u ∷ vs)) ∙ omega (arith, row-length u vs)
-
-rows-most : (j k : ℕ) → k < 10 ^ suc j → (w h : ℕ) (vs : List ℕ) → 1 ≤ w → length vs ≡ h * w → AtMost k vs
-    → length (rows w h vs) ≤ (j + 2) * length vs
-rows-most j k few w h vs p e a =
-    let l = ap length (rows-grid w h vs p e) in
-    omega (arith, l, grid-length w 0 vs, grid-most j k few vs a)
-
-values-most : (m : Measures) → InRange m → AtMost 256 (valuesOf m)
-values-most m h = record { each = each }
-  where
-    each : (i : ℕ) → getD (valuesOf m) i 0 ≤ 256
-    each zero = h .wide .1
-    each (suc zero) = h .high .1
-    each (suc (suc zero)) = omega (arith, h .near)
-    each (suc (suc (suc zero))) = omega (arith, h .reached)
-    each (suc (suc (suc (suc zero)))) = omega (arith, h .kind)
-    each (suc (suc (suc (suc (suc i))))) = omega arith
-
-row-most : (m : Measures) → InRange m → length (row (valuesOf m)) ≤ 20
-row-most m h =
-    omega (
-      arith,
-      row-length (m .width) (m .height ∷ m .radius ∷ m .reach ∷ m .start ∷ []),
-      grid-most 2 256 (omega arith) (valuesOf m) (values-most m h),
-    )
-
-lengths : (a b c d e f g : List ℕ) → length (a ++ (b ++ (c ++ (d ++ (e ++ (f ++ g))))))
-    ≡ length a + (length b + (length c + (length d + (length e + (length f + length g)))))
-lengths a b c d e f g = simp length-append
-
--- a sheet of at most 4,096 cells
-module _ (s : Sheet) (h : InRange (s .measures)) (z : Shaped s) (few : cellsOf (s .measures) ≤ 4096) where
-  abbrev m : Measures
-  m = s .measures
-
-  psf-most : AtMost 255 (s .psf) → length (rows (sideOf m) (sideOf m) (s .psf)) ≤ 196
-  psf-most a =
-      omega (
-        arith,
-        rows-most 2 255 (omega arith) (sideOf m) (sideOf m) (s .psf) (omega arith) (z .psf-length) a,
-        z .psf-length,
-        entries-most m h,
-      )
-
-  gray-most : AtMost 255 (s .gray) → length (rows (m .width) (m .height) (s .gray)) ≤ 16384
-  gray-most a =
-      omega (
-        arith,
-        rows-most 2 255 (omega arith) (m .width) (m .height) (s .gray) (h .wide .0) (z .gray-length) a,
-        z .gray-length,
-        few,
-      )
-
-  -- its dots having at most j + 1 digits
-  module _ (j k : ℕ) (l : k < 10 ^ suc j) where
-    dots-most : AtMost k (s .dots) → length (dotsText s) ≤ (j + 2) * 4096 + 5
-    unfolding dotsName
-    dots-most a = go (eqb (m .start) 2) refl
-      where
-        go : (b : Bool) → eqb (m .start) 2 ≡ b → length (dotsText s) ≤ (j + 2) * 4096 + 5
-        go true t =
-            let e : length (s .dots) ≡ cellsOf m = rw t at (z .dots-length) in
-            let most : (j + 2) * length (s .dots) ≤ (j + 2) * 4096 = mul-le-mul-left (j + 2) (omega arith) in
-            rw t (omega (arith, rows-most j k l (m .width) (m .height) (s .dots) (h .wide .0) e a, most))
-        go false t = rw t (omega arith)
-
-    pub text-most : AtMost 255 (s .psf) → AtMost 255 (s .gray) → AtMost k (s .dots)
-        → length (sheetText s) ≤ 16650 + (j + 2) * 4096
-    unfolding sheetText names psfName grayName
-    text-most p g d =
-        omega (
-          arith,
-          lengths names (row (valuesOf m)) psfName (rows (sideOf m) (sideOf m) (s .psf)) grayName
-              (rows (m .width) (m .height) (s .gray)) (dotsText s),
-          row-most m h,
-          psf-most p,
-          gray-most g,
-          dots-most d,
-        )
+use Rattle.model.proofs.Sheet.{read-exactly, front}
 
 -- ---- the output by what was read
 -- more than 32,768 bytes

@@ -324,7 +324,7 @@ module _ (m : Measures) (r : InRange m) where
   pub entries-most : entriesOf m ≤ 49
   entries-most = let n : sideOf m ≤ 7 = omega (arith, r .near) in mul-le-mul {n₂ = 7} {m₂ = 7} n n
 
-  cells-most : cellsOf m ≤ 65536
+  pub cells-most : cellsOf m ≤ 65536
   cells-most = mul-le-mul {n₂ = 256} {m₂ = 256} (r .high .1) (r .wide .1)
 
   pub cells-fit : (k : ℕ) → cellsOf m ≤ k → roomFor m 49 k k ≡ true
@@ -377,6 +377,17 @@ module _ (m : Measures) (psf gray dots : List ℕ) (taken : writeRefusal m psf g
       let (_, (_, (_, (_, (_, (dot, _)))))) = none drawn tt refl taken in
       record { each = none-above 1 dots dot }
 
+  pub written-valid : AtMost 255 psf → AtMost 255 gray → Valid (writtenSheet m psf gray dots)
+  written-valid psf-most gray-most =
+      let (r, h) = written-shaped in
+      record {
+        in-range = record { wide = r .wide; high = r .high; near = r .near; reached = r .reached; kind = le-refl 2 };
+        shaped = h;
+        psf-most = psf-most;
+        gray-most = gray-most;
+        dots-most = written-bits;
+      }
+
 -- what stands at the front of a buffer
 pub front : {A : Type 0} (l vs : List A) (n : ℕ) → length vs ≡ n → n ≤ length l → take n (sets l 0 vs) ≡ vs
 front l vs n e h = ap (take n) (sets-eq vs l 0 (omega arith)) ∙ take-at vs (drop (0 + length vs) l) n e
@@ -401,18 +412,7 @@ module _ (m : Measures) (psf gray dots out : List ℕ) (k : ℕ) (done : writeCa
       let w = writeText (sheetText s) out in
       let (z, _) = was-taken out w (writeRefusal m psf gray dots) done in
       let (l, t) = text-whole (sheetText s) out k (rw z at done) in
-      let (r, h) = written-shaped m psf gray dots z in
-      rw z (
-        l,
-        t,
-        record {
-          in-range = record { wide = r .wide; high = r .high; near = r .near; reached = r .reached; kind = le-refl 2 };
-          shaped = h;
-          psf-most = psf-most;
-          gray-most = gray-most;
-          dots-most = written-bits m psf gray dots z;
-        },
-      )
+      rw z (l, t, written-valid m psf gray dots z psf-most gray-most)
 
   -- and it reads back as what was written, with start 2
   pub written-back : (pb gb db : List ℕ) → roomFor (withGiven m) (length pb) (length gb) (length db) ≡ true

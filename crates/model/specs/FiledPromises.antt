@@ -24,6 +24,7 @@ use Rattle.model.specs.Grammar.{IsText, DrawsText}
 use Rattle.model.specs.Filed.{filedText, IsFiled, filedGrammar, filedRoom}
 use Rattle.model.specs.FiledExamples.{FiledExamples}
 use Rattle.model.specs.FiledCalls.{filedStats, verdictOf, CheckBuffers, laid, checkCall}
+use Rattle.model.specs.Interface.{longestFiled}
 use Rattle.model.specs.ProgramPromises.{Unrefused}
 
 -- ---- when it is refused and when it answers: of any bytes, with any buffers
@@ -109,6 +110,9 @@ pub record FiledPromises : Type 0 where
   -- no text is filed in two ways
   pub one-text-one-filing : (bytes : List ℕ) (s s′ : Sheet) (f f′ : FiledFigures)
       → IsFiled bytes s f → IsFiled bytes s′ f′ → (s ≡ s′) × (f ≡ f′)
+  -- so many bytes suffice for every filed sheet
+  pub filed-sheets-are-short : (bytes : List ℕ) (s : Sheet) (f : FiledFigures) → IsFiled bytes s f
+      → length bytes ≤ longestFiled
   -- of every input for which `settle` prints a plate, what it prints checks: the figure agrees, the ledger fits, the
   -- plate is at rest
   pub settle-prints-what-checks : (input : List ℕ) → Unrefused input

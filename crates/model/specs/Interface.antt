@@ -25,7 +25,7 @@ use Rattle.model.specs.Calls.{startCall, toggleCall, swapCall, toggleSca
 use Rattle.model.specs.Lists.{Call, toggleAt, swapAt, toggleScan, swapScan, convergence}
 use Rattle.model.specs.Lists.{Result, tried, swept, rested, runBy, Held, outcome}
 use Rattle.model.specs.Sheet.{cellsOf}
-use Rattle.model.specs.SheetCalls.{SheetBuffers, readCall}
+use Rattle.model.specs.SheetCalls.{SheetBuffers, readCall, writeCall}
 use Rattle.model.specs.FiledCalls.{CheckBuffers, checkCall}
 
 -- ---- an answer in numbers
@@ -38,6 +38,31 @@ status (refused n o) = n
 abbrev pub after : {A B : Type 0} → (A → B) → B → Reply A → B
 after f b (result a) = f a
 after f b (refused n o) = b
+
+-- ---- a slice that is to hold so many numbers
+-- 5 where there are not so many
+abbrev pub badCount : {A : Type 0} → ℕ → List A → List Refusal
+badCount n l = 5 when not (eqb (length l) n) ∷ []
+
+-- unless it is refused, that call
+unfoldable pub overCount : {A B C : Type 0} → ℕ → List C → B → Outcome A B → Outcome A B
+overCount n l kept o = unless (firstOf (badCount n l)) kept o
+
+-- ---- measures in a slice, as `valuesOf` lists them
+-- how many numbers they take
+abbrev pub measuresSize : ℕ
+measuresSize = 5
+
+-- the measures in such a slice
+unfoldable pub measuresIn : List ℕ → Measures
+measuresIn l =
+    record {
+      width = getD l 0 0;
+      height = getD l 1 0;
+      radius = getD l 2 0;
+      reach = getD l 3 0;
+      start = getD l 4 0;
+    }
 
 -- ---- a ledger in a slice
 -- how many numbers it takes
@@ -70,36 +95,41 @@ statsIn l =
           };
     }
 
--- 5 where there are not so many, in its place: after 1 to 4
-abbrev pub badStatsLength : List ℤ → List Refusal
-badStatsLength stats = 5 when not (eqb (length stats) statsSize) ∷ []
+-- both slices: 5 by the number of measures, before all else, since nothing else can then be judged; 1 to 4 by these;
+-- and 5 in its place, by the ledger's
+unfoldable pub sliceRefusal : List ℕ → List ℤ → ℕ
+sliceRefusal measures stats =
+    firstOf (badCount measuresSize measures ++ badMeasures (measuresIn measures) ++ badCount statsSize stats)
 
-unfoldable pub sliceRefusal : Measures → List ℤ → ℕ
-sliceRefusal m stats = firstOf (badMeasures m ++ badStatsLength stats)
+-- ---- starts and later calls, with measures and ledger in slices
+module _ (measures psf gray dots : List ℕ) (table stats : List ℤ) where
+  abbrev m : Measures
+  m = measuresIn measures
 
--- ---- starts and later calls, with the ledger in a slice
-module _ (m : Measures) (psf gray dots : List ℕ) (table stats : List ℤ) where
-  -- unless the slice is refused, that call
-  unfoldable pub overStats : {A : Type 0} → Outcome A Buffers → Outcome A Buffers
-  overStats o = unless (sliceRefusal m stats) (record { dots = dots; table = table }) o
+  abbrev s : Stats
+  s = statsIn stats
+
+  -- unless one of the two is refused, that call
+  unfoldable pub overSlices : {A : Type 0} → Outcome A Buffers → Outcome A Buffers
+  overSlices o = unless (sliceRefusal measures stats) (record { dots = dots; table = table }) o
 
   abbrev pub startOver : Outcome Stats Buffers
-  startOver = overStats (startCall m psf gray dots table)
+  startOver = overSlices (startCall m psf gray dots table)
 
   abbrev pub toggleOver : (row col : ℕ) → Outcome Tried Buffers
-  toggleOver row col = overStats (toggleCall m psf gray dots table (statsIn stats) row col)
+  toggleOver row col = overSlices (toggleCall m psf gray dots table s row col)
 
   abbrev pub swapOver : (row col row′ col′ : ℕ) → Outcome Tried Buffers
-  swapOver row col row′ col′ = overStats (swapCall m psf gray dots table (statsIn stats) row col row′ col′)
+  swapOver row col row′ col′ = overSlices (swapCall m psf gray dots table s row col row′ col′)
 
   abbrev pub toggleScanOver : Outcome ScanResult Buffers
-  toggleScanOver = overStats (toggleScanCall m psf gray dots table (statsIn stats))
+  toggleScanOver = overSlices (toggleScanCall m psf gray dots table s)
 
   abbrev pub swapScanOver : Outcome ScanResult Buffers
-  swapScanOver = overStats (swapScanCall m psf gray dots table (statsIn stats))
+  swapScanOver = overSlices (swapScanCall m psf gray dots table s)
 
   abbrev pub convergeOver : Outcome ConvergeResult Buffers
-  convergeOver = overStats (convergeCall m psf gray dots table (statsIn stats))
+  convergeOver = overSlices (convergeCall m psf gray dots table s)
 
 -- the change of an attempt
 abbrev pub changeOf : Tried → ℤ
@@ -154,14 +184,14 @@ abbrev pub leave : Slices → Outcome Result Buffers → Slices
 leave h o =
     record { dots = o .left .dots; table = o .left .table; stats = statsAfter (h .stats) (o .reply) }
 
-module _ (m : Measures) (psf gray : List ℕ) where
+module _ (measures psf gray : List ℕ) where
   abbrev pub callOver : Slices → Call → Outcome Result Buffers
-  callOver h (toggleAt row col) = outcome tried (toggleOver m psf gray (h .dots) (h .table) (h .stats) row col)
+  callOver h (toggleAt row col) = outcome tried (toggleOver measures psf gray (h .dots) (h .table) (h .stats) row col)
   callOver h (swapAt row col row′ col′) =
-      outcome tried (swapOver m psf gray (h .dots) (h .table) (h .stats) row col row′ col′)
-  callOver h toggleScan = outcome swept (toggleScanOver m psf gray (h .dots) (h .table) (h .stats))
-  callOver h swapScan = outcome swept (swapScanOver m psf gray (h .dots) (h .table) (h .stats))
-  callOver h convergence = outcome rested (convergeOver m psf gray (h .dots) (h .table) (h .stats))
+      outcome tried (swapOver measures psf gray (h .dots) (h .table) (h .stats) row col row′ col′)
+  callOver h toggleScan = outcome swept (toggleScanOver measures psf gray (h .dots) (h .table) (h .stats))
+  callOver h swapScan = outcome swept (swapScanOver measures psf gray (h .dots) (h .table) (h .stats))
+  callOver h convergence = outcome rested (convergeOver measures psf gray (h .dots) (h .table) (h .stats))
 
   -- every answer in order, and what is left
   abbrev pub runOver : Slices → List Call → List (Reply Result) × Slices
@@ -173,11 +203,22 @@ abbrev pub offsetAfter : {A : Type 0} → ℕ → Reply A → ℕ
 offsetAfter at (result a) = at
 offsetAfter at (refused n o) = o
 
--- reading into a slice of measures: 5 where there are not five, before all else
-unfoldable pub readOver : (bytes psf gray dots measures : List ℕ) → Outcome Measures SheetBuffers
+-- reading into a slice of measures
+abbrev pub readOver : (bytes psf gray dots measures : List ℕ) → Outcome Measures SheetBuffers
 readOver bytes psf gray dots measures =
-    unless (firstOf (5 when not (eqb (length measures) 5) ∷ [])) (record { psf = psf; gray = gray; dots = dots })
-    (readCall bytes psf gray dots)
+    overCount measuresSize measures (record { psf = psf; gray = gray; dots = dots }) (readCall bytes psf gray dots)
+
+-- writing from one
+abbrev pub writeOver : (measures psf gray dots out : List ℕ) → Outcome ℕ (List ℕ)
+writeOver measures psf gray dots out =
+    overCount measuresSize measures out (writeCall (measuresIn measures) psf gray dots out)
+
+-- how many bytes always suffice for a sheet, and for a filed one (PM_MAX_SHEET, PM_MAX_FILED)
+abbrev pub longestSheet : ℕ
+longestSheet = 393472
+
+abbrev pub longestFiled : ℕ
+longestFiled = 393624
 
 -- ---- the check of a filed sheet
 -- its verdict in numbers: the figure as filed, E by the sum, whether they agree, whether the ledger fits, whether it is
@@ -200,9 +241,12 @@ verdictNumbers v =
     ∷ pos (cellsOf (v .measures))
     ∷ []
 
--- checking into a slice of numbers: 5 where there are not six, before all else
-unfoldable pub checkOver : (bytes psf gray dots : List ℕ) (table verdict : List ℤ) → Outcome Verdict CheckBuffers
+-- checking into a slice of numbers
+abbrev pub checkOver : (bytes psf gray dots : List ℕ) (table verdict : List ℤ) → Outcome Verdict CheckBuffers
 checkOver bytes psf gray dots table verdict =
-    unless (firstOf (5 when not (eqb (length verdict) verdictSize) ∷ []))
-    (record { psf = psf; gray = gray; dots = dots; table = table })
+    overCount verdictSize verdict (record { psf = psf; gray = gray; dots = dots; table = table })
     (checkCall bytes psf gray dots table)
+
+-- ---- the version of the library: 1,000,000 × major + 1,000 × minor + patch
+abbrev pub version : ℕ
+version = 1000000

@@ -20,7 +20,7 @@ use Rattle.model.specs.Basic.{AtMost, All}
 use Rattle.model.specs.Psf.{total, autocorrelation, peak}
 use Rattle.model.specs.Error.{Target, targetOf, targetFor, cellAt, cells, kernel, Halftone}
 use Rattle.model.specs.Error.{filteredError, filteredErrors, squaredError, perceivedSquares}
-use Rattle.model.specs.Refusal.{firstOf, halftoneRefusal}
+use Rattle.model.specs.Refusal.{firstOf, badMeasures, halftoneRefusal, writeRefusal}
 use Rattle.model.specs.Ledger.{changes, ledgerDots, fallOf, dotTotal, counted}
 use Rattle.model.specs.State.{badTable, badStats, StateFits, laterRefusal}
 use Rattle.model.specs.Change.{sign, Move, Placed, made, toggle, swap, change}
@@ -29,18 +29,19 @@ use Rattle.model.specs.Reference.{Tried, accepted, declined, attempt}
 use Rattle.model.specs.Partners.{Ordered}
 use Rattle.model.specs.Scan.{Convergence, turn, convergeFrom}
 use Rattle.model.specs.Screen.{startDots}
-use Rattle.model.specs.Calls.{Reply, result, Outcome, Buffers, startCall, toggleCall, swapCall}
+use Rattle.model.specs.Calls.{Reply, result, refused, Outcome, Buffers, startCall, toggleCall, swapCall}
 use Rattle.model.specs.Lists.{Call, convergence, Result, tried, rested, Held, latest, handOn, call, run}
 use Rattle.model.specs.Lists.{begin, referenceCall, referenceRun, Expected, Rest}
 use Rattle.model.specs.Text.{isDigit, digits, capped, NoDigit, step, stepAt}
-use Rattle.model.specs.Sheet.{Sheet, roomFor, sheetText, Valid}
+use Rattle.model.specs.Sheet.{Sheet, roomFor, sheetText, Valid, valuesOf}
 use Rattle.model.specs.SheetRefusal.{Draws, Leftmost}
 use Rattle.model.specs.Format.{readSheet}
 use Rattle.model.specs.SheetCalls.{withGiven, writtenSheet, readCall, writeCall}
 use Rattle.model.specs.ProgramPromises.{ProgramPromises}
 use Rattle.model.specs.PicturePromises.{PicturePromises}
 use Rattle.model.specs.FiledPromises.{FiledPromises}
-use Rattle.model.specs.Interface.{statsSize, statsNumbers, statsIn, startOver, toggleOver, swapOver, Told}
+use Rattle.model.specs.Interface.{measuresSize, measuresIn, statsSize, statsNumbers, statsIn, sliceRefusal}
+use Rattle.model.specs.Interface.{startOver, toggleOver, swapOver, readOver, writeOver, Told, longestSheet}
 use Rattle.model.specs.Interface.{Slices, slicesOf, heldIn, callOver, runOver}
 use Rattle.model.specs.Examples.{Examples, OneSided}
 
@@ -310,25 +311,53 @@ module _ (m : Measures) (psf gray dots out : List ℕ) (k : ℕ) where
         × (r .left .dots ≡ sets d 0 dots)
 
 -- ---- the C interface
-module _ (m : Measures) (psf gray : List ℕ) where
+module _ (measures psf gray : List ℕ) where
   pub record InterfacePromises : Type 0 where
-    -- a ledger that was stored is read back as it was
+    -- measures and a ledger that were stored are read back as they were
+    pub stored-measures-read-back : (m : Measures) → measuresIn (valuesOf m) ≡ m
     pub stored-stats-read-back : (s : Stats) → statsIn (statsNumbers s) ≡ s
-    -- over a slice of six numbers a start and each later call is that of document 01, refused alike
-    pub start-takes-its-slice : (dots : List ℕ) (table stats : List ℤ) → length stats ≡ statsSize
-        → startOver m psf gray dots table stats ≡ startCall m psf gray dots table
-    pub calls-take-their-slice : (h : Slices) (c : Call) → length (h .stats) ≡ statsSize
-        → callOver m psf gray h c ≡ call m psf gray (heldIn h) c
+    -- over a slice of five measures, and one of six numbers, a start, each later call and the reading and writing of a
+    -- sheet is that of document 01, refused alike
+    pub start-takes-its-slices : (dots : List ℕ) (table stats : List ℤ) → length measures ≡ measuresSize
+        → length stats ≡ statsSize
+        → startOver measures psf gray dots table stats ≡ startCall (measuresIn measures) psf gray dots table
+    pub calls-take-their-slices : (h : Slices) (c : Call) → length measures ≡ measuresSize
+        → length (h .stats) ≡ statsSize
+        → callOver measures psf gray h c ≡ call (measuresIn measures) psf gray (heldIn h) c
+    pub reading-takes-its-slice : (bytes dots : List ℕ) → length measures ≡ measuresSize
+        → readOver bytes psf gray dots measures ≡ readCall bytes psf gray dots
+    pub writing-takes-its-slice : (dots out : List ℕ) → length measures ≡ measuresSize
+        → writeOver measures psf gray dots out ≡ writeCall (measuresIn measures) psf gray dots out
+    -- over another number of measures it is refused with 5, whatever else it is handed; over five by 1 to 4, and over
+    -- five that these pass with 5 where the ledger's slice has not six numbers
+    pub start-wants-all-measures : (dots : List ℕ) (table stats : List ℤ) → (length measures ≡ measuresSize → ⊥)
+        → startOver measures psf gray dots table stats
+        ≡ record { reply = refused 5 0; left = record { dots = dots; table = table } }
+    pub calls-want-all-measures : (h : Slices) (c : Call) → (length measures ≡ measuresSize → ⊥)
+        → callOver measures psf gray h c
+        ≡ record { reply = refused 5 0; left = record { dots = h .dots; table = h .table } }
+    pub measures-are-judged-next : (stats : List ℤ) → length measures ≡ measuresSize
+        → (firstOf (badMeasures (measuresIn measures)) ≡ 0 → ⊥)
+        → sliceRefusal measures stats ≡ firstOf (badMeasures (measuresIn measures))
+    pub ledger-is-counted-last : (stats : List ℤ) → length measures ≡ measuresSize
+        → firstOf (badMeasures (measuresIn measures)) ≡ 0 → (length stats ≡ statsSize → ⊥)
+        → sliceRefusal measures stats ≡ 5
+    pub reading-wants-all-measures : (bytes dots : List ℕ) → (length measures ≡ measuresSize → ⊥)
+        → readOver bytes psf gray dots measures
+        ≡ record { reply = refused 5 0; left = record { psf = psf; gray = gray; dots = dots } }
+    pub writing-wants-all-measures : (dots out : List ℕ) → (length measures ≡ measuresSize → ⊥)
+        → writeOver measures psf gray dots out ≡ record { reply = refused 5 0; left = out }
     -- an attempt that is not refused was accepted exactly when its change is below 0
     pub toggle-is-told : (dots : List ℕ) (table stats : List ℤ) (row col : ℕ) (a : Tried)
-        → (let o = toggleOver m psf gray dots table stats row col in
+        → (let o = toggleOver measures psf gray dots table stats row col in
         o .reply ≡ result a → Told dots table stats a (o .left))
     pub swap-is-told : (dots : List ℕ) (table stats : List ℤ) (row col row′ col′ : ℕ) (a : Tried)
-        → (let o = swapOver m psf gray dots table stats row col row′ col′ in
+        → (let o = swapOver measures psf gray dots table stats row col row′ col′ in
         o .reply ≡ result a → Told dots table stats a (o .left))
     -- so a list of its calls answers and leaves what the list of calls does, and demand 3 holds of it
-    pub interface-lists-are-lists : (h : Held) (l : List Call)
-        → (let r = run m psf gray h l in runOver m psf gray (slicesOf h) l ≡ (r .0, slicesOf (r .1)))
+    pub interface-lists-are-lists : (h : Held) (l : List Call) → length measures ≡ measuresSize
+        → (let r = run (measuresIn measures) psf gray h l in
+        runOver measures psf gray (slicesOf h) l ≡ (r .0, slicesOf (r .1)))
 
 -- ---- all of them
 pub record Promises : Type 0 where
@@ -351,7 +380,12 @@ pub record Promises : Type 0 where
   pub program-promises : (input : List ℕ) → ProgramPromises input
   pub picture-promises : PicturePromises
   pub filed-promises : FiledPromises
-  pub interface-promises : (m : Measures) (psf gray : List ℕ) → InterfacePromises m psf gray
+  -- so many bytes suffice for every sheet: what is refused for nothing else is written
+  pub sheets-are-short : (s : Sheet) → Valid s → length (sheetText s) ≤ longestSheet
+  pub so-many-bytes-suffice : (m : Measures) (psf gray dots out : List ℕ) → writeRefusal m psf gray dots ≡ 0
+      → AtMost 255 psf → AtMost 255 gray → longestSheet ≤ length out
+      → writeCall m psf gray dots out .reply ≡ result (length (sheetText (writtenSheet m psf gray dots)))
+  pub interface-promises : (measures psf gray : List ℕ) → InterfacePromises measures psf gray
   -- the starred examples of document 01, and its worked example as the program prints it
   pub examples-hold : Examples
   -- the half-peak bound is one-sided: plates at rest, at every reach, break its other side

@@ -7,11 +7,9 @@ ghost use Rattle.model.specs.Calls.{autocorrelationCall, filteredErrorCall, squ
 ghost use Rattle.model.specs.Interface.{status, after, statsNumbers};
 ghost use Rattle.model.specs.Interface.{startOver, toggleOver, swapOver, toggleScanOver, swapScanOver, convergeOver};
 ghost use Rattle.model.specs.Interface.{changeOf, triedNumbers, scanNumbers, convergeNumbers};
-ghost use Rattle.model.specs.Interface.{offsetAfter, readOver, verdictNumbers, checkOver};
+ghost use Rattle.model.specs.Interface.{offsetAfter, readOver, writeOver, verdictNumbers, checkOver, version};
 ghost use Rattle.model.specs.Sheet.{valuesOf};
-ghost use Rattle.model.specs.SheetCalls.{writeCall};
 ghost use Rattle.model.specs.PictureCalls.{readPbmCall, readPgmCall, writePbmCall, writePgmCall, countRowsCall};
-use model::Measures;
 use model::Size;
 use platemaker_answers::lay_filled;
 use platemaker_answers::lay_reading;
@@ -22,10 +20,20 @@ use platemaker_ledgers::lay_attempt;
 use platemaker_ledgers::lay_converged;
 use platemaker_ledgers::lay_scan;
 use platemaker_ledgers::lay_start;
-use platemaker_numbers::judge_slice;
+use platemaker_numbers::judge_numbers;
+use platemaker_numbers::measures_of;
 use platemaker_numbers::stats_of;
+use platemaker_numbers::version_number;
 use platemaker_pictures::lay_picture;
 use platemaker_pictures::lay_written;
+
+// The version of the library.
+#[no_mangle]
+pub extern "C" fn pm_version() -> u32
+    ensures { λ r. ⌜ r ≡ version ⌝ }
+{
+    version_number()
+}
 
 // The autocorrelation.
 #[no_mangle]
@@ -81,49 +89,34 @@ pub extern "C" fn pm_squared_error(
 // A start.
 #[no_mangle]
 pub extern "C" fn pm_start(
-    width: usize,
-    height: usize,
-    radius: usize,
-    reach: usize,
-    start: usize,
+    measures: &[usize],
     psf: &[u8],
     gray: &[u8],
     dots: &mut [u8],
     table: &mut [i32],
     stats: &mut [i64],
 ) -> u32
-    ensures { λ r. ⌜ (let o = startOver
-        (record { width = width; height = height; radius = radius; reach = reach; start = start })
-        (now (psf .entry)) (now (gray .entry)) (now (dots .entry)) (now (table .entry)) (now (stats .entry)) in
+    ensures { λ r. ⌜ (let o = startOver (now (measures .entry)) (now (psf .entry)) (now (gray .entry))
+        (now (dots .entry)) (now (table .entry)) (now (stats .entry)) in
         (r ≡ status (o .reply))
         × (now (dots .exit) ≡ o .left .dots)
         × (now (table .exit) ≡ o .left .table)
         × (now (stats .exit) ≡ after statsNumbers (now (stats .entry)) (o .reply))) ⌝ }
     ensures { λ _. ⌜ AtMost 255 (now (gray .entry)) ⌝ }
 {
-    let measures = Measures {
-        width: width,
-        height: height,
-        radius: radius,
-        reach: reach,
-        start: start,
-    };
-    let number = judge_slice(measures, stats);
+    let number = judge_numbers(measures, stats);
     if number != 0 {
         return number;
     }
-    let answer = starts::start(measures, psf, gray, dots, table);
+    let sizes = measures_of(measures);
+    let answer = starts::start(sizes, psf, gray, dots, table);
     lay_start(answer, stats)
 }
 
 // An attempt to toggle.
 #[no_mangle]
 pub extern "C" fn pm_try_toggle(
-    width: usize,
-    height: usize,
-    radius: usize,
-    reach: usize,
-    start: usize,
+    measures: &[usize],
     psf: &[u8],
     gray: &[u8],
     dots: &mut [u8],
@@ -133,39 +126,28 @@ pub extern "C" fn pm_try_toggle(
     col: usize,
     change: &mut i64,
 ) -> u32
-    ensures { λ r. ⌜ (let o = toggleOver
-        (record { width = width; height = height; radius = radius; reach = reach; start = start })
-        (now (psf .entry)) (now (gray .entry)) (now (dots .entry)) (now (table .entry)) (now (stats .entry)) row col in
+    ensures { λ r. ⌜ (let o = toggleOver (now (measures .entry)) (now (psf .entry)) (now (gray .entry))
+        (now (dots .entry)) (now (table .entry)) (now (stats .entry)) row col in
         (r ≡ status (o .reply))
         × (now (dots .exit) ≡ o .left .dots)
         × (now (table .exit) ≡ o .left .table)
         × (now (stats .exit) ≡ after (triedNumbers (now (stats .entry))) (now (stats .entry)) (o .reply))
         × (now (change .exit) ≡ after changeOf (now (change .entry)) (o .reply))) ⌝ }
 {
-    let measures = Measures {
-        width: width,
-        height: height,
-        radius: radius,
-        reach: reach,
-        start: start,
-    };
-    let number = judge_slice(measures, stats);
+    let number = judge_numbers(measures, stats);
     if number != 0 {
         return number;
     }
+    let sizes = measures_of(measures);
     let ledger = stats_of(stats);
-    let answer = search::try_toggle(measures, psf, gray, dots, table, ledger, row, col);
+    let answer = search::try_toggle(sizes, psf, gray, dots, table, ledger, row, col);
     lay_attempt(answer, stats, change)
 }
 
 // An attempt to swap.
 #[no_mangle]
 pub extern "C" fn pm_try_swap(
-    width: usize,
-    height: usize,
-    radius: usize,
-    reach: usize,
-    start: usize,
+    measures: &[usize],
     psf: &[u8],
     gray: &[u8],
     dots: &mut [u8],
@@ -177,51 +159,28 @@ pub extern "C" fn pm_try_swap(
     col2: usize,
     change: &mut i64,
 ) -> u32
-    ensures { λ r. ⌜ (let o = swapOver
-        (record { width = width; height = height; radius = radius; reach = reach; start = start })
-        (now (psf .entry)) (now (gray .entry)) (now (dots .entry)) (now (table .entry)) (now (stats .entry))
-        row col row2 col2 in
+    ensures { λ r. ⌜ (let o = swapOver (now (measures .entry)) (now (psf .entry)) (now (gray .entry))
+        (now (dots .entry)) (now (table .entry)) (now (stats .entry)) row col row2 col2 in
         (r ≡ status (o .reply))
         × (now (dots .exit) ≡ o .left .dots)
         × (now (table .exit) ≡ o .left .table)
         × (now (stats .exit) ≡ after (triedNumbers (now (stats .entry))) (now (stats .entry)) (o .reply))
         × (now (change .exit) ≡ after changeOf (now (change .entry)) (o .reply))) ⌝ }
 {
-    let measures = Measures {
-        width: width,
-        height: height,
-        radius: radius,
-        reach: reach,
-        start: start,
-    };
-    let number = judge_slice(measures, stats);
+    let number = judge_numbers(measures, stats);
     if number != 0 {
         return number;
     }
+    let sizes = measures_of(measures);
     let ledger = stats_of(stats);
-    let answer = search::try_swap(
-        measures,
-        psf,
-        gray,
-        dots,
-        table,
-        ledger,
-        row,
-        col,
-        row2,
-        col2,
-    );
+    let answer = search::try_swap(sizes, psf, gray, dots, table, ledger, row, col, row2, col2);
     lay_attempt(answer, stats, change)
 }
 
 // A toggle scan.
 #[no_mangle]
 pub extern "C" fn pm_toggle_scan(
-    width: usize,
-    height: usize,
-    radius: usize,
-    reach: usize,
-    start: usize,
+    measures: &[usize],
     psf: &[u8],
     gray: &[u8],
     dots: &mut [u8],
@@ -229,39 +188,28 @@ pub extern "C" fn pm_toggle_scan(
     stats: &mut [i64],
     changes: &mut u64,
 ) -> u32
-    ensures { λ r. ⌜ (let o = toggleScanOver
-        (record { width = width; height = height; radius = radius; reach = reach; start = start })
-        (now (psf .entry)) (now (gray .entry)) (now (dots .entry)) (now (table .entry)) (now (stats .entry)) in
+    ensures { λ r. ⌜ (let o = toggleScanOver (now (measures .entry)) (now (psf .entry)) (now (gray .entry))
+        (now (dots .entry)) (now (table .entry)) (now (stats .entry)) in
         (r ≡ status (o .reply))
         × (now (dots .exit) ≡ o .left .dots)
         × (now (table .exit) ≡ o .left .table)
         × (now (stats .exit) ≡ after scanNumbers (now (stats .entry)) (o .reply))
         × (now (changes .exit) ≡ after (λ done. done .changes) (now (changes .entry)) (o .reply))) ⌝ }
 {
-    let measures = Measures {
-        width: width,
-        height: height,
-        radius: radius,
-        reach: reach,
-        start: start,
-    };
-    let number = judge_slice(measures, stats);
+    let number = judge_numbers(measures, stats);
     if number != 0 {
         return number;
     }
+    let sizes = measures_of(measures);
     let ledger = stats_of(stats);
-    let answer = search::toggle_scan(measures, psf, gray, dots, table, ledger);
+    let answer = search::toggle_scan(sizes, psf, gray, dots, table, ledger);
     lay_scan(answer, stats, changes)
 }
 
 // A swap scan.
 #[no_mangle]
 pub extern "C" fn pm_swap_scan(
-    width: usize,
-    height: usize,
-    radius: usize,
-    reach: usize,
-    start: usize,
+    measures: &[usize],
     psf: &[u8],
     gray: &[u8],
     dots: &mut [u8],
@@ -269,39 +217,28 @@ pub extern "C" fn pm_swap_scan(
     stats: &mut [i64],
     changes: &mut u64,
 ) -> u32
-    ensures { λ r. ⌜ (let o = swapScanOver
-        (record { width = width; height = height; radius = radius; reach = reach; start = start })
-        (now (psf .entry)) (now (gray .entry)) (now (dots .entry)) (now (table .entry)) (now (stats .entry)) in
+    ensures { λ r. ⌜ (let o = swapScanOver (now (measures .entry)) (now (psf .entry)) (now (gray .entry))
+        (now (dots .entry)) (now (table .entry)) (now (stats .entry)) in
         (r ≡ status (o .reply))
         × (now (dots .exit) ≡ o .left .dots)
         × (now (table .exit) ≡ o .left .table)
         × (now (stats .exit) ≡ after scanNumbers (now (stats .entry)) (o .reply))
         × (now (changes .exit) ≡ after (λ done. done .changes) (now (changes .entry)) (o .reply))) ⌝ }
 {
-    let measures = Measures {
-        width: width,
-        height: height,
-        radius: radius,
-        reach: reach,
-        start: start,
-    };
-    let number = judge_slice(measures, stats);
+    let number = judge_numbers(measures, stats);
     if number != 0 {
         return number;
     }
+    let sizes = measures_of(measures);
     let ledger = stats_of(stats);
-    let answer = search::swap_scan(measures, psf, gray, dots, table, ledger);
+    let answer = search::swap_scan(sizes, psf, gray, dots, table, ledger);
     lay_scan(answer, stats, changes)
 }
 
 // A settling.
 #[no_mangle]
 pub extern "C" fn pm_converge(
-    width: usize,
-    height: usize,
-    radius: usize,
-    reach: usize,
-    start: usize,
+    measures: &[usize],
     psf: &[u8],
     gray: &[u8],
     dots: &mut [u8],
@@ -309,28 +246,21 @@ pub extern "C" fn pm_converge(
     stats: &mut [i64],
     scans: &mut u64,
 ) -> u32
-    ensures { λ r. ⌜ (let o = convergeOver
-        (record { width = width; height = height; radius = radius; reach = reach; start = start })
-        (now (psf .entry)) (now (gray .entry)) (now (dots .entry)) (now (table .entry)) (now (stats .entry)) in
+    ensures { λ r. ⌜ (let o = convergeOver (now (measures .entry)) (now (psf .entry)) (now (gray .entry))
+        (now (dots .entry)) (now (table .entry)) (now (stats .entry)) in
         (r ≡ status (o .reply))
         × (now (dots .exit) ≡ o .left .dots)
         × (now (table .exit) ≡ o .left .table)
         × (now (stats .exit) ≡ after convergeNumbers (now (stats .entry)) (o .reply))
         × (now (scans .exit) ≡ after (λ done. done .scans) (now (scans .entry)) (o .reply))) ⌝ }
 {
-    let measures = Measures {
-        width: width,
-        height: height,
-        radius: radius,
-        reach: reach,
-        start: start,
-    };
-    let number = judge_slice(measures, stats);
+    let number = judge_numbers(measures, stats);
     if number != 0 {
         return number;
     }
+    let sizes = measures_of(measures);
     let ledger = stats_of(stats);
-    let answer = search::converge(measures, psf, gray, dots, table, ledger);
+    let answer = search::converge(sizes, psf, gray, dots, table, ledger);
     lay_converged(answer, stats, scans)
 }
 
@@ -364,11 +294,7 @@ pub extern "C" fn pm_read_sheet(
 // Writes a sheet.
 #[no_mangle]
 pub extern "C" fn pm_write_sheet(
-    width: usize,
-    height: usize,
-    radius: usize,
-    reach: usize,
-    start: usize,
+    measures: &[usize],
     psf: &[u8],
     gray: &[u8],
     dots: &[u8],
@@ -376,22 +302,19 @@ pub extern "C" fn pm_write_sheet(
     length: &mut usize,
     offset: &mut usize,
 ) -> u32
-    ensures { λ r. ⌜ (let o = writeCall
-        (record { width = width; height = height; radius = radius; reach = reach; start = start })
-        (now (psf .entry)) (now (gray .entry)) (now (dots .entry)) (now (out .entry)) in
+    ensures { λ r. ⌜ (let o = writeOver (now (measures .entry)) (now (psf .entry)) (now (gray .entry))
+        (now (dots .entry)) (now (out .entry)) in
         (r ≡ status (o .reply))
         × (now (out .exit) ≡ o .left)
         × (now (length .exit) ≡ after (λ n. n) (now (length .entry)) (o .reply))
         × (now (offset .exit) ≡ offsetAfter (now (offset .entry)) (o .reply))) ⌝ }
 {
-    let measures = Measures {
-        width: width,
-        height: height,
-        radius: radius,
-        reach: reach,
-        start: start,
-    };
-    let answer = sheet::write_sheet(measures, psf, gray, dots, out);
+    if measures.len() != 5 {
+        *offset = 0;
+        return 5;
+    }
+    let sizes = measures_of(measures);
+    let answer = sheet::write_sheet(sizes, psf, gray, dots, out);
     lay_writing(answer, length, offset)
 }
 

@@ -4,7 +4,7 @@ ghost use mathlib.Core.Path.{_≡_};
 ghost use lib.ListN.{length};
 ghost use Rattle.model.specs.Calls.{filled, valued};
 ghost use Rattle.model.specs.SheetCalls.{readingOf, writingOf};
-ghost use Rattle.model.specs.Interface.{status, after, offsetAfter};
+ghost use Rattle.model.specs.Interface.{status, after, measuresSize, offsetAfter};
 ghost use Rattle.model.specs.Sheet.{valuesOf};
 use model::Filled;
 use model::Reading;
@@ -38,7 +38,7 @@ pub fn lay_squared_error(answer: SquaredError, error: &mut i64) -> u32
 
 // the same of a sheet that is read, with its measures, or the byte offset of a refusal
 pub fn lay_reading(answer: Reading, measures: &mut [usize], offset: &mut usize) -> u32
-    requires { ⌜ length (now measures) ≡ 5 ⌝ }
+    requires { ⌜ length (now measures) ≡ measuresSize ⌝ }
     ensures { λ r. ⌜ (r ≡ status (readingOf answer))
         × (now (measures .exit) ≡ after valuesOf (now (measures .entry)) (readingOf answer))
         × (now (offset .exit) ≡ offsetAfter (now (offset .entry)) (readingOf answer)) ⌝ }

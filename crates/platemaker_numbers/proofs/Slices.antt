@@ -1,13 +1,11 @@
--- Numbers into a slice and out of it, and the judge of a slice that is to hold a ledger.
---   held-whole                                      a signed number, held as bits, is itself
---   all-stored, numbers-stored                      as many numbers as there are, put into a slice; those of a ledger
---   stats-read                                      a ledger read out of a slice
---   measures-refused, length-refused, none-refused  one of 1 to 4 is drawn; 5 is drawn; none is
+-- Numbers into a slice and out of it.
+--   held-whole                  a signed number, held as bits, is itself
+--   all-stored, numbers-stored  as many numbers as there are, put into a slice; those of a ledger
+--   stats-read                  a ledger read out of a slice
 use mathlib.Core.List.{List, [], _∷_, _++_, append-nil}
 use mathlib.Core.Path.{_≡_, refl, _∙_, ap}
 use Prim.Native.Nat.{ℕ, _+_, _<_, _^_}
 use native.Mathlib.Omega.{arith}
-use borrow.Author.Tests.{eq-eqb, ne-eqb}
 use lib.IntN.{ℤ, pos}
 use lib.Signed.{mag}
 use lib.ListN.{length, getD, drop-of-length-le}
@@ -15,13 +13,9 @@ use lib.Seq.{sets, sets-eq}
 use mir.Facts.{toZ-ofZ}
 use mir.Syntax.{w64}
 use mir.Val.{toZ, ofZ, hbits}
-use Rattle.model.specs.declared.Measures.{Measures}
 use Rattle.model.specs.declared.Stats.{Stats}
-use Rattle.model.specs.Refusal.{firstOf, badMeasures}
 use Rattle.model.specs.Interface.{statsSize, statsNumbers, statsIn}
 use Rattle.model.specs.Ledger.{countOf}
-use Rattle.model.specs.Interface.{badStatsLength, sliceRefusal}
-use Rattle.model.proofs.Refusal.{by-first, by-second}
 
 -- ---- numbers into a slice
 -- a signed number, held as bits, is itself
@@ -73,21 +67,3 @@ module _ (l : List ℤ) where
   unfolding statsIn
   stats-read f0 f1 f2 f3 f4 f5 a b c d =
       rw (a, b, c, d, whole 0 f0, whole 1 f1, whole 2 f2, whole 3 f3, whole 4 f4, whole 5 f5) refl
-
--- ---- the judge of a slice that is to hold a ledger
-module _ (m : Measures) (stats : List ℤ) {x : ℕ} (e : x ≡ firstOf (badMeasures m)) where
-  pub measures-refused : (x ≡ 0 → ⊥) → x ≡ sliceRefusal m stats
-  unfolding sliceRefusal
-  measures-refused = by-first (badMeasures m) (badStatsLength stats) tt e
-
-  pub length-refused : x ≡ 0 → (length stats ≡ statsSize → ⊥) → 5 ≡ sliceRefusal m stats
-  unfolding sliceRefusal
-  length-refused z h =
-      let drawn : 5 ≡ firstOf (badStatsLength stats) = rw (ne-eqb (length stats) statsSize h) refl in
-      by-second (badMeasures m) (badStatsLength stats) tt e z drawn
-
-  pub none-refused : x ≡ 0 → length stats ≡ statsSize → 0 ≡ sliceRefusal m stats
-  unfolding sliceRefusal
-  none-refused z h =
-      let drawn : 0 ≡ firstOf (badStatsLength stats) = rw (eq-eqb (length stats) statsSize h) refl in
-      by-second (badMeasures m) (badStatsLength stats) tt e z drawn

@@ -1,7 +1,8 @@
-// Ledgers and measures in slices of numbers, for the C interface.
+// Ledgers and measures in slices of numbers, and the version of the library, for the C interface.
 ghost use mathlib.Core.Path.{_≡_};
 ghost use lib.ListN.{length};
-ghost use Rattle.model.specs.Interface.{statsSize, statsNumbers, statsIn, sliceRefusal};
+ghost use Rattle.model.specs.Interface.{measuresSize, measuresIn, statsSize, statsNumbers, statsIn, sliceRefusal};
+ghost use Rattle.model.specs.Interface.{version};
 ghost use Rattle.model.specs.Ledger.{countOf};
 ghost use Rattle.model.specs.Sheet.{valuesOf};
 ghost use Rattle.platemaker_numbers.specs.Storable.{Storable};
@@ -57,9 +58,23 @@ pub fn store_stats(out: &mut [i64], stats: Stats)
     out[5] = swaps;
 }
 
-// measures into five numbers
+// the measures in a slice of numbers
+pub fn measures_of(numbers: &[usize]) -> Measures
+    requires { ⌜ length (now numbers) ≡ measuresSize ⌝ }
+    ensures { λ r. ⌜ r ≡ measuresIn (now (numbers .entry)) ⌝ }
+{
+    Measures {
+        width: numbers[0],
+        height: numbers[1],
+        radius: numbers[2],
+        reach: numbers[3],
+        start: numbers[4],
+    }
+}
+
+// measures into a slice of numbers
 pub fn store_measures(out: &mut [usize], measures: Measures)
-    requires { ⌜ length (now out) ≡ 5 ⌝ }
+    requires { ⌜ length (now out) ≡ measuresSize ⌝ }
     ensures { λ _. ⌜ now (out .exit) ≡ valuesOf measures ⌝ }
 {
     out[0] = measures.width;
@@ -69,11 +84,15 @@ pub fn store_measures(out: &mut [usize], measures: Measures)
     out[4] = measures.start;
 }
 
-// 1 to 4, and 5 for a slice that is to hold a ledger
-pub fn judge_slice(measures: Measures, stats: &[i64]) -> u32
-    ensures { λ r. ⌜ r ≡ sliceRefusal measures (now (stats .entry)) ⌝ }
+// 5 for a slice that is to hold measures, 1 to 4 for these, and 5 for one that is to hold a ledger
+pub fn judge_numbers(measures: &[usize], stats: &[i64]) -> u32
+    ensures { λ r. ⌜ r ≡ sliceRefusal (now (measures .entry)) (now (stats .entry)) ⌝ }
 {
-    let number = judge_all_measures(measures);
+    if measures.len() != 5 {
+        return 5;
+    }
+    let sizes = measures_of(measures);
+    let number = judge_all_measures(sizes);
     if number != 0 {
         return number;
     }
@@ -81,4 +100,11 @@ pub fn judge_slice(measures: Measures, stats: &[i64]) -> u32
         return 5;
     }
     0
+}
+
+// the version of the library
+pub fn version_number() -> u32
+    ensures { λ r. ⌜ r ≡ version ⌝ }
+{
+    1000000
 }

@@ -1,6 +1,6 @@
 -- What is put for each answer.
 --   Put, run-put                a text at the front of the output, and so what the program answers and leaves
---   sheet-most                  a sheet is at most 33,034 bytes long
+--   sheet-most                  a sheet is at most 33,024 bytes long
 --   result-put                  the sheet, then the figures
 --   converged-put, started-put  of what settling, and of what the start answered and left
 --   read-refused, read-done     of what reading answered and left
@@ -23,7 +23,8 @@ use Rattle.model.specs.Calls.{result, Outcome, started, converged, startCall, c
 use Rattle.model.specs.Sheet.{entriesOf, cellsOf, sheetText, InRange, Shaped}
 use Rattle.model.specs.SheetCalls.{readingOf, SheetBuffers, readCall, withGiven, writtenSheet}
 use Rattle.model.specs.Program.{refusedText, statsText, convergedText, startedText, processedText, output}
-use Rattle.model.proofs.Program.{text-most, emptyPsf, emptyCells, output-refused, output-read}
+use Rattle.model.proofs.Longest.{text-most}
+use Rattle.model.proofs.Program.{emptyPsf, emptyCells, output-refused, output-read}
 use Rattle.sheet_write.proofs.Puts.{part-next}
 
 -- a text of at most so many bytes stands at the front of the output, and its length is answered
@@ -46,20 +47,20 @@ module _ (most : ℕ) (few : most ≤ 40960) (out : List ℕ) (answer : ℕ) (le
       (e, (l, (within, sym (length-take-le answer left within))))
 
 module _ (m : Measures) (psf gray dots : List ℕ) where
-  -- a sheet is at most 33,034 bytes long
+  -- a sheet is at most 33,024 bytes long
   pub sheet-most : InRange m → Shaped (writtenSheet m psf gray dots) → cellsOf m ≤ 4096
       → AtMost 255 psf → AtMost 255 gray → AtMost 255 dots
-      → length (sheetText (writtenSheet m psf gray dots)) ≤ 33034
+      → length (sheetText (writtenSheet m psf gray dots)) ≤ 33024
   sheet-most h z few =
       let given : InRange (withGiven m) =
       record { wide = h .wide; high = h .high; near = h .near; reached = h .reached; kind = omega arith } in
-      text-most (writtenSheet m psf gray dots) given z few 2 255 (omega arith)
+      text-most (writtenSheet m psf gray dots) given z 4096 few 2 255 (omega arith)
 
   -- the sheet, then the figures
   pub result-put : (done : ConvergeResult) (out sheet left : List ℕ) (end answer : ℕ)
       → sheet ≡ sets out 0 (sheetText (writtenSheet m psf gray dots))
       → end ≡ length (sheetText (writtenSheet m psf gray dots))
-      → length (sheetText (writtenSheet m psf gray dots)) ≤ 33034
+      → length (sheetText (writtenSheet m psf gray dots)) ≤ 33024
       → (answer ≡ end + length (statsText done)) × (answer ≤ end + 192)
       → left ≡ sets sheet end (statsText done)
       → Put 40960 out answer left (convergedText m psf gray (result done) dots)

@@ -29,6 +29,12 @@ pub enum Fault {
     StopsAfterSwaps,
     /// a settling that does not count its last scan
     LastScanNotCounted,
+    /// the number of measures judged in the order of the refusals, after 1 to 4
+    MeasuresJudgedLate,
+    /// fewer measures than five taken
+    FewerMeasuresTaken,
+    /// more measures than five taken
+    MoreMeasuresTaken,
     /// a width and height of 257 taken
     Size257Taken,
     /// a psf sum of 1,025 taken
@@ -165,7 +171,7 @@ impl Fault {
     }
 }
 
-const SINGLE: [Fault; 80] = [
+const SINGLE: [Fault; 83] = [
     Fault::PsfTransposed,
     Fault::Folded,
     Fault::TiesAccepted,
@@ -178,6 +184,9 @@ const SINGLE: [Fault; 80] = [
     Fault::CellNotLeft,
     Fault::StopsAfterSwaps,
     Fault::LastScanNotCounted,
+    Fault::MeasuresJudgedLate,
+    Fault::FewerMeasuresTaken,
+    Fault::MoreMeasuresTaken,
     Fault::Size257Taken,
     Fault::Sum1025Taken,
     Fault::DotsAlwaysJudged,

@@ -3,7 +3,10 @@
 
 pub mod filed;
 
-use crate::handed::{Call, Cell, Handed, ERROR, MEASURES, OFF, ON, START_DOTS, START_ERROR, STATS, SWAPS};
+use crate::handed::{
+    Call, Cell, Handed, MEASURES, STATS, STATS_ERROR, STATS_OFF, STATS_ON, STATS_START_DOTS, STATS_START_ERROR,
+    STATS_SWAPS,
+};
 use crate::picture::{pbm, pgm, row_bytes, PBM, PGM};
 use crate::plain::{Plate, MAX_COUNT, MAX_ERROR};
 use crate::sheet;
@@ -196,14 +199,14 @@ fn stats(random: &mut Random, handed: &Handed) -> Vec<i64> {
     if random.one_in(3) {
         return stats;
     }
-    stats[OFF] = random.below(5) as i64;
-    stats[ON] = (random.below(5) as i64).min(count + stats[OFF]);
-    stats[OFF] = stats[OFF].min(cells - count + stats[ON]);
-    stats[SWAPS] = random.pick(&[0, 1, 2, 1000]);
-    stats[START_DOTS] = count - stats[ON] + stats[OFF];
-    let least = 255 * (stats[ON] + stats[OFF] + stats[SWAPS]);
+    stats[STATS_OFF] = random.below(5) as i64;
+    stats[STATS_ON] = (random.below(5) as i64).min(count + stats[STATS_OFF]);
+    stats[STATS_OFF] = stats[STATS_OFF].min(cells - count + stats[STATS_ON]);
+    stats[STATS_SWAPS] = random.pick(&[0, 1, 2, 1000]);
+    stats[STATS_START_DOTS] = count - stats[STATS_ON] + stats[STATS_OFF];
+    let least = 255 * (stats[STATS_ON] + stats[STATS_OFF] + stats[STATS_SWAPS]);
     let more = random.pick(&[0, 0, 1, 12_345]);
-    stats[START_ERROR] = (error + least + more).min(MAX_ERROR);
+    stats[STATS_START_ERROR] = (error + least + more).min(MAX_ERROR);
     stats
 }
 
@@ -268,6 +271,16 @@ fn damage_all(random: &mut Random, call: Call, handed: &mut Handed) {
     aimed.sort_by_key(|&number| Reverse(number));
     aimed.dedup();
     aimed.into_iter().for_each(|number| damage(random, call, number, handed));
+    if call.takes_measures() && random.one_in(12) {
+        handed.other_measures = Some(other_measures(random, handed));
+    }
+}
+
+/// Another number of measures: none, the first ones, all and some more; 261 are five to whoever keeps 8 bits.
+fn other_measures(random: &mut Random, handed: &Handed) -> Vec<usize> {
+    let mut measures = handed.plate();
+    measures.resize_with(random.pick(&[0, 1, 4, 4, 6, 6, 7, 10, 261]), || random.below(8));
+    measures
 }
 
 /// Sizes far above every limit, one of them a small number to whoever keeps 32 bits.
@@ -372,17 +385,17 @@ fn change_length(random: &mut Random, call: Call, handed: &mut Handed) {
 fn misstate(random: &mut Random, handed: &mut Handed) {
     let (cells, count) = (handed.cells() as i64, dot_total(handed));
     let (at, beyond) = (random.below(STATS), random.below(2) as i64);
-    let (error, figure) = (handed.stats[ERROR], handed.stats[at]);
+    let (error, figure) = (handed.stats[STATS_ERROR], handed.stats[at]);
     let limit = match at {
-        START_ERROR | ERROR => MAX_ERROR,
-        START_DOTS => cells,
+        STATS_START_ERROR | STATS_ERROR => MAX_ERROR,
+        STATS_START_DOTS => cells,
         _ => MAX_COUNT,
     };
     match random.below(8) {
         0 => handed.stats[at] = figure - 1,
         1 => handed.stats[at] = figure + 1,
         2 => handed.stats[at] = random.pick(&[limit, limit + 1, -1, i64::MIN, i64::MAX, 1 << 62]),
-        3 => handed.stats[random.within(ON, SWAPS)] = -1,
+        3 => handed.stats[random.within(STATS_ON, STATS_SWAPS)] = -1,
         4 => handed.stats = vec![MAX_ERROR + beyond, error, count, 0, 0, 0],
         5 => handed.stats = vec![MAX_ERROR, error, cells + beyond, 0, cells + beyond - count, 0],
         6 => handed.stats = vec![MAX_ERROR, error, -beyond, count + beyond, 0, 0],

@@ -1,7 +1,7 @@
 //! The calls of the header, and one record of everything that a call can be handed and can write.
 
-pub use platemaker::{AGREES, FITS, RESTS, VERDICT};
-pub use platemaker::{ERROR, MEASURES, OFF, ON, START_DOTS, START_ERROR, STATS, SWAPS};
+pub use platemaker::{MEASURES, VERDICT, VERDICT_AGREES, VERDICT_FITS, VERDICT_RESTS};
+pub use platemaker::{STATS, STATS_ERROR, STATS_OFF, STATS_ON, STATS_START_DOTS, STATS_START_ERROR, STATS_SWAPS};
 
 /// A row and a column.
 pub type Cell = (usize, usize);
@@ -55,6 +55,11 @@ impl Call {
         matches!(self, TryToggle | TrySwap | ToggleScan | SwapScan | Converge)
     }
 
+    /// Whether the call is handed the measures as a slice. The others take some of them, each by itself, or none.
+    pub fn takes_measures(self) -> bool {
+        self.is_later() || matches!(self, Call::Start | Call::WriteSheet)
+    }
+
     /// Whether the call has to do with a plate's numbers alone, and not with a file or its bytes.
     pub fn is_on_plate(self) -> bool {
         use Call::*;
@@ -100,6 +105,8 @@ pub struct Handed {
     pub radius: usize,
     pub reach: usize,
     pub start: usize,
+    /// the slice of measures, where it has not just the five numbers above
+    pub other_measures: Option<Vec<usize>>,
     pub psf: Vec<u8>,
     pub gray: Vec<u8>,
     pub dots: Vec<u8>,
@@ -116,6 +123,7 @@ pub struct Handed {
     pub scans: u64,
     /// the sheet, the filed sheet or the file that is read
     pub bytes: Vec<u8>,
+    /// the measures that a sheet has
     pub measures: Vec<usize>,
     pub out: Vec<u8>,
     pub length: usize,
@@ -133,9 +141,15 @@ impl Handed {
         self.width * self.height
     }
 
+    /// The slice of measures that a call is handed.
+    pub fn plate(&self) -> Vec<usize> {
+        let five = || vec![self.width, self.height, self.radius, self.reach, self.start];
+        self.other_measures.clone().unwrap_or_else(five)
+    }
+
     /// The accepted changes that the stats count.
     pub fn accepted(&self) -> i64 {
-        self.stats[ON] + self.stats[OFF] + self.stats[SWAPS]
+        self.stats[STATS_ON] + self.stats[STATS_OFF] + self.stats[STATS_SWAPS]
     }
 
     /// The values that differ from another record's, named by field and entry: at most 20 of them.

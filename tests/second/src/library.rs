@@ -81,18 +81,19 @@ lent! {
     read_width: usize, read_height: usize
 }
 
-/// Makes a call of the library: answers what it returned and whether the guards are as they were, and leaves in the record
-/// what it wrote.
+/// Makes a call of the library: answers what it returned and whether the guards are as they were, and the slice of
+/// measures too, and leaves in the record what it wrote.
 pub fn call(call: Call, handed: &mut Handed) -> (u32, bool) {
-    let mut lent = Lent::new(handed);
-    let answer = make(call, handed, &mut lent);
-    (answer, lent.back(handed))
+    let (mut lent, mut plate) = (Lent::new(handed), handed.plate());
+    let mut measures = Guarded::new(&plate);
+    let answer = make(call, handed, measures.lend(), &mut lent);
+    let kept = measures.back(&mut plate) && plate == handed.plate();
+    (answer, lent.back(handed) && kept)
 }
 
-fn make(call: Call, handed: &Handed, lent: &mut Lent) -> u32 {
+fn make(call: Call, handed: &Handed, m: &[usize], lent: &mut Lent) -> u32 {
     use platemaker::*;
-    let &Handed { width, height, radius, reach, start: kind, row, col, row2, col2, .. } = handed;
-    let m = Measures { width, height, radius, reach, start: kind };
+    let &Handed { width, height, radius, row, col, row2, col2, .. } = handed;
     let (psf, gray, dots) = (lent.psf.lend(), lent.gray.lend(), lent.dots.lend());
     let (table, stats, change) = (lent.table.lend(), lent.stats.lend(), lent.change.number());
     let (bytes, out, length, offset) = (lent.bytes.lend(), lent.out.lend(), lent.length.number(), lent.offset.number());

@@ -3,7 +3,10 @@
 //! taken over the dots.
 
 use crate::fault::Fault;
-use crate::handed::{Call, Cell, Handed, ERROR, OFF, ON, START_DOTS, START_ERROR, STATS, SWAPS};
+use crate::handed::{
+    Call, Cell, Handed, MEASURES, STATS, STATS_ERROR, STATS_OFF, STATS_ON, STATS_START_DOTS, STATS_START_ERROR,
+    STATS_SWAPS,
+};
 use crate::picture::row_bytes;
 use std::cmp::Reverse;
 
@@ -436,8 +439,10 @@ impl Second {
         self.fault == Some(fault)
     }
 
-    /// Judges what a call is handed: least number first, then the state. A call judges only what it is handed.
+    /// Judges what a call is handed: how many measures there are, before all else; then least number first, then the
+    /// state. A call judges only what it is handed.
     pub fn judge(&self, call: Call, handed: &Handed) -> Result<(), u32> {
+        refuse(5, !self.has(Fault::MeasuresJudgedLate) && self.other_count(call, handed))?;
         let mut order = ORDER;
         if let Some(Fault::Exchanged(at)) = self.fault {
             order.swap(at, at + 1);
@@ -453,7 +458,7 @@ impl Second {
             2 => handed.radius > 3,
             3 => handed.reach > 6,
             4 => handed.start > 2,
-            5 => lengths(call, handed).iter().any(|(length, measure)| length != measure),
+            5 => self.other_count(call, handed) || other_length(call, handed),
             6 => self.sum_outside(&handed.psf),
             7 => self.judges_dots(call, handed) && handed.dots.iter().any(|&dot| dot > 1),
             8 => call.named(handed).iter().any(|&(row, col)| row >= handed.height || col >= handed.width),
@@ -461,6 +466,16 @@ impl Second {
             20 => self.table_differs(handed),
             21 => self.ledger_differs(&Plate::new(handed, self.fault), &handed.stats),
             _ => equal_dots(handed),
+        }
+    }
+
+    /// 5: another number of measures than five, where they are handed as a slice.
+    fn other_count(&self, call: Call, handed: &Handed) -> bool {
+        let count = if call.takes_measures() { handed.plate().len() } else { MEASURES };
+        match self.fault {
+            Some(Fault::FewerMeasuresTaken) => count > MEASURES,
+            Some(Fault::MoreMeasuresTaken) => count < MEASURES,
+            _ => count != MEASURES,
         }
     }
 
@@ -505,12 +520,13 @@ impl Second {
         let least = if self.has(Fault::FallBy254) { 254 } else { 255 };
         let count_taken = |&count: &i64| count <= MAX_COUNT && (count >= 0 || self.has(Fault::NegativeCountTaken));
         let wide = |at: usize| i128::from(stats[at]);
-        stats[ERROR] != plate.squared_error()
-            || !(0..=error_limit).contains(&stats[START_ERROR])
-            || !stats[ON..=SWAPS].iter().all(count_taken)
-            || !(0..=dots_limit).contains(&stats[START_DOTS])
-            || i128::from(plate.dot_total()) != wide(START_DOTS) + wide(ON) - wide(OFF)
-            || least * (wide(ON) + wide(OFF) + wide(SWAPS)) > wide(START_ERROR) - wide(ERROR)
+        stats[STATS_ERROR] != plate.squared_error()
+            || !(0..=error_limit).contains(&stats[STATS_START_ERROR])
+            || !stats[STATS_ON..=STATS_SWAPS].iter().all(count_taken)
+            || !(0..=dots_limit).contains(&stats[STATS_START_DOTS])
+            || i128::from(plate.dot_total()) != wide(STATS_START_DOTS) + wide(STATS_ON) - wide(STATS_OFF)
+            || least * (wide(STATS_ON) + wide(STATS_OFF) + wide(STATS_SWAPS))
+                > wide(STATS_START_ERROR) - wide(STATS_ERROR)
     }
 
     /// What a call does that is not refused.
@@ -554,7 +570,8 @@ impl Second {
     /// An attempt, a scan or a settling, on from the counts handed.
     fn later(&self, call: Call, handed: &mut Handed) {
         let mut plate = Plate::new(handed, self.fault);
-        (plate.on, plate.off, plate.swaps) = (handed.stats[ON], handed.stats[OFF], handed.stats[SWAPS]);
+        (plate.on, plate.off, plate.swaps) =
+            (handed.stats[STATS_ON], handed.stats[STATS_OFF], handed.stats[STATS_SWAPS]);
         match call {
             Call::TryToggle | Call::TrySwap => handed.change = self.attempt(&mut plate, &call.named(handed)),
             Call::ToggleScan => handed.changes = plate.toggle_scan(),
@@ -562,8 +579,8 @@ impl Second {
             _ => handed.scans = plate.converge(),
         }
         handed.table = narrow(plate.filtered_error());
-        let (error, dots) = (plate.squared_error(), handed.stats[START_DOTS]);
-        handed.stats = vec![handed.stats[START_ERROR], error, dots, plate.on, plate.off, plate.swaps];
+        let (error, dots) = (plate.squared_error(), handed.stats[STATS_START_DOTS]);
+        handed.stats = vec![handed.stats[STATS_START_ERROR], error, dots, plate.on, plate.off, plate.swaps];
         handed.dots = plate.dots;
     }
 
@@ -582,7 +599,13 @@ fn equal_dots(handed: &Handed) -> bool {
     plate.dot((handed.row, handed.col)) == plate.dot((handed.row2, handed.col2))
 }
 
-/// The slices that a call is lent, each with its length and its measure. Called when 1 and 2 are not drawn.
+/// 5: a slice of another length than its measure.
+fn other_length(call: Call, handed: &Handed) -> bool {
+    lengths(call, handed).iter().any(|(length, measure)| length != measure)
+}
+
+/// The slices that a call is lent save the measures, each with its length and its measure. Called when 1 and 2 are not
+/// drawn.
 fn lengths(call: Call, handed: &Handed) -> Vec<(usize, usize)> {
     let square = |side: usize| side * side;
     let psf = || (handed.psf.len(), square(2 * handed.radius + 1));

@@ -4,7 +4,7 @@
 //! holds the input against it. The first byte that differs is a byte that no sheet could have there.
 
 use crate::fault::Fault;
-use crate::handed::{Call, Handed, ERROR, MEASURES, OFF, ON, START_ERROR, SWAPS};
+use crate::handed::{Call, Handed, MEASURES, STATS_ERROR, STATS_OFF, STATS_ON, STATS_START_ERROR, STATS_SWAPS};
 use crate::plain::{refuse, Second};
 use std::cmp::Reverse;
 
@@ -148,7 +148,14 @@ pub fn text(handed: &Handed, start: usize) -> Vec<u8> {
 /// The figures of a settled plate: E at the start, E now, the three counts, the scans.
 pub fn figures(handed: &Handed) -> [i64; FIGURES] {
     let stats = &handed.stats;
-    [stats[START_ERROR], stats[ERROR], stats[ON], stats[OFF], stats[SWAPS], handed.scans as i64]
+    [
+        stats[STATS_START_ERROR],
+        stats[STATS_ERROR],
+        stats[STATS_ON],
+        stats[STATS_OFF],
+        stats[STATS_SWAPS],
+        handed.scans as i64,
+    ]
 }
 
 /// The filed sheet of a plate: a sheet with start 2, then the names of its figures and the figures.

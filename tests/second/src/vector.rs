@@ -1,6 +1,6 @@
 //! Vectors: a call as a line of text, with all that it leaves. tests/README.md has the form of a line.
 
-use crate::handed::{Call, Handed};
+use crate::handed::{Call, Handed, MEASURES};
 use std::fmt::{Display, Write};
 use std::mem::take;
 use std::str::FromStr;
@@ -82,11 +82,12 @@ fn set(field: &str, handed: &mut Handed) -> Result<(), String> {
     Ok(())
 }
 
+/// Any number of measures. What is missing of the five is 0 to whoever takes it.
 fn set_measures(values: &str, handed: &mut Handed) -> Result<(), String> {
-    let Ok(measures) = <[usize; 5]>::try_from(numbers(values)?) else {
-        return Err("a plate has five measures".to_string());
-    };
-    [handed.width, handed.height, handed.radius, handed.reach, handed.start] = measures;
+    let measures: Vec<usize> = numbers(values)?;
+    let five: [usize; MEASURES] = std::array::from_fn(|at| measures.get(at).copied().unwrap_or(0));
+    [handed.width, handed.height, handed.radius, handed.reach, handed.start] = five;
+    handed.other_measures = (measures.len() != MEASURES).then_some(measures);
     Ok(())
 }
 

@@ -1,39 +1,48 @@
--- `platemaker::pm_start` meets its contract: the slice is refused, or the call is made and its answer laid out.
+-- `platemaker::pm_start` meets its contract: a slice is refused, or the call is made and its answer laid out.
 use mathlib.Core.Path.{refl}
 use native.Mathlib.Omega.{arith}
 use borrow.Author.Needs.{needs}
 use Rattle.model.specs.Basic.{AtMost}
+use Rattle.model.specs.Calls.{startCall}
 use Rattle.platemaker.proofs.Ledgers.{start-storable}
-use Rattle.platemaker.proofs.Laid.{to-lay, slice-refused, slice-taken}
+use Rattle.platemaker.proofs.Laid.{measures-sized, to-lay, slices-refused, slices-taken}
 use Rattle.platemaker.proofs.pm_start.Statement.{statement}
 use Rattle.platemaker.proofs.pm_start.Tie as tie
 
 -- gray is made of bytes
-bytes : (k : tie.After-shared-slice-known2) → AtMost 255 (k .before .before .args .gray .now)
-bytes k = record { each = λ i. omega (arith, k .shared-slice-known2 .given i) }
+bytes : (k : tie.After-shared-slice-known3) → AtMost 255 (k .before .before .before .args .gray .now)
+bytes k = record { each = λ i. omega (arith, k .shared-slice-known3 .given i) }
 
-judge-slice-requires : tie.Need-judge-slice-requires
-judge-slice-requires c κs = search needs
+judge-numbers-requires : tie.Need-judge-numbers-requires
+judge-numbers-requires c κs = search needs
 
 same-length : tie.Need-same-length
 same-length c = search needs
 
 returns : tie.Need-returns
 returns c =
+    let judged : tie.After-judge-numbers = search in
+    let known : tie.After-shared-slice-known3 = search in
     let (r, d, t, s, _)
-    = slice-refused _ _ _ _ _ _ _ _ (λ _. tt {0}) (tt {0}) (c .before .judge-slice .ensures) (c .if1 .taken) in
-    ((r, d, t, s), bytes (c .before .before .before .before))
+    = slices-refused _ _ _ _ _ _ _ _ (λ _. tt {0}) (tt {0}) (judged .judge-numbers .ensures) (c .if1 .taken) in
+    ((r, d, t, s), bytes known)
+
+measures-of-requires : tie.Need-measures-of-requires
+measures-of-requires c κs =
+    let judged : tie.After-judge-numbers = search in
+    let good : tie.Else1 = search in
+    measures-sized _ _ (judged .judge-numbers .ensures) (good .if1 .left)
 
 start-requires : tie.Need-start-requires
 start-requires c κs = search needs
 
 lay-start-requires : tie.Need-lay-start-requires
 lay-start-requires c κs =
-    let k = c .before .before .before .before in
-    let e = k .before .before .before in
-    let j = e .before in
-    to-lay _ _ _ (j .judge-slice .ensures) (e .if1 .left) (k .start .ensures .0)
-    (start-storable _ _ _ _ _ (k .start .ensures .1 .1 .1))
+    let judged : tie.After-judge-numbers = search in
+    let good : tie.Else1 = search in
+    let called : tie.After-start = search in
+    to-lay _ _ _ (judged .judge-numbers .ensures) (good .if1 .left) (called .start .ensures .0)
+    (start-storable _ _ _ _ _ (called .start .ensures .1 .1 .1))
 
 same-length-2 : tie.Need-same-length-2
 same-length-2 c = search needs
@@ -46,23 +55,26 @@ same-length-4 c = search needs
 
 returns-2 : tie.Need-returns-2
 returns-2 c =
-    let p = c .before in
-    let k = p .before .before .before .before .before in
-    let e = k .before .before .before in
-    let (reply, (dots, (table, gray))) = k .start .ensures in
-    let (a, b) = p .lay-start .ensures in
+    let judged : tie.After-judge-numbers = search in
+    let good : tie.Else1 = search in
+    let measured : tie.After-measures-of = search in
+    let called : tie.After-start = search in
+    let laid : tie.After-lay-start = search in
+    let (reply, (dots, (table, gray))) = called .start .ensures in
+    let (a, b) = laid .lay-start .ensures in
     let (r, d, t, s, _)
-    = slice-taken _ _ _ _ _ _ _ _ (λ _. tt {0}) (tt {0}) (e .before .judge-slice .ensures) (e .if1 .left)
-    (reply, (dots, table)) (a, b, refl) in
+    = slices-taken (λ m p g d t s. startCall m p g d t) _ _ _ _ _ _ _ (λ _. tt {0}) (tt {0}) (judged .judge-numbers .ensures)
+    (good .if1 .left) (measured .measures-of .ensures) refl (reply, (dots, table)) (a, b, refl) in
     ((r, d, t, s), gray)
 
 pub pm-start-spec : {M : Type 1} → statement M
 pm-start-spec =
     tie.close
     (tie.spec
-    judge-slice-requires
+    judge-numbers-requires
     same-length
     returns
+    measures-of-requires
     start-requires
     lay-start-requires
     same-length-2

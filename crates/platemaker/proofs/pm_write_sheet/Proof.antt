@@ -1,9 +1,15 @@
--- `platemaker::pm_write_sheet` meets its contract: the answer is laid out, and the output is as it is left.
-use mathlib.Core.Path.{_∙_, ap}
+-- `platemaker::pm_write_sheet` meets its contract: the slice of measures is refused, or the sheet is written and the
+-- answer laid out.
 use borrow.Author.Needs.{needs}
-use Rattle.model.specs.Interface.{status, after, offsetAfter}
+use Rattle.platemaker.proofs.Laid.{write-uncounted, write-counted}
 use Rattle.platemaker.proofs.pm_write_sheet.Statement.{statement}
 use Rattle.platemaker.proofs.pm_write_sheet.Tie as tie
+
+returns : tie.Need-returns
+returns c = write-uncounted _ _ _ _ _ _ _ (c .if1 .taken)
+
+measures-of-requires : tie.Need-measures-of-requires
+measures-of-requires c κs = search needs
 
 write-sheet-requires : tie.Need-write-sheet-requires
 write-sheet-requires c κs = search needs
@@ -14,13 +20,22 @@ lay-writing-requires c κs = search needs
 same-length : tie.Need-same-length
 same-length c = search needs
 
-returns : tie.Need-returns
-returns c =
+returns-2 : tie.Need-returns-2
+returns-2 c =
+    let taken : tie.Else1 = search in
+    let measured : tie.After-measures-of = search in
     let called : tie.After-write-sheet = search in
     let laid : tie.After-lay-writing = search in
-    let (e, left) = called .write-sheet .ensures in
-    let (number, long, at) = laid .lay-writing .ensures in
-    (number ∙ ap status e, left, long ∙ ap (after (λ n. n) _) e, at ∙ ap (offsetAfter _) e)
+    write-counted _ _ _ _ _ _ _ (taken .if1 .left) (measured .measures-of .ensures) (called .write-sheet .ensures)
+    (laid .lay-writing .ensures)
 
 pub pm-write-sheet-spec : {M : Type 1} → statement M
-pm-write-sheet-spec = tie.close (tie.spec write-sheet-requires lay-writing-requires same-length returns)
+pm-write-sheet-spec =
+    tie.close
+    (tie.spec
+    returns
+    measures-of-requires
+    write-sheet-requires
+    lay-writing-requires
+    same-length
+    returns-2)

@@ -14,7 +14,7 @@ sheet-length-requires c κs = search needs
 
 -- how long the sheet is at most
 most : (c : tie.After-slice-known) → let a = c .before .before .before .before .args in
-    length (sheetText (writtenSheet (a .m) (a .psf .now) (a .gray .now) (a .dots .now))) ≤ 33034
+    length (sheetText (writtenSheet (a .m) (a .psf .now) (a .gray .now) (a .dots .now))) ≤ 33024
 most c =
     let k3 = c .before in
     let k2 = k3 .before in

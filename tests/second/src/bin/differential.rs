@@ -10,7 +10,10 @@
 
 use second::fault::Fault;
 use second::generate::{self, Random};
-use second::handed::{Call, Handed, AGREES, ERROR, FITS, MEASURES, OFF, ON, RESTS, START_DOTS, START_ERROR};
+use second::handed::{
+    Call, Handed, MEASURES, STATS_ERROR, STATS_OFF, STATS_ON, STATS_START_DOTS, STATS_START_ERROR, VERDICT_AGREES,
+    VERDICT_FITS, VERDICT_RESTS,
+};
 use second::library;
 use second::picture::{self, row_bytes};
 use second::plain::{self, Plate, Second};
@@ -38,7 +41,8 @@ struct Run {
     failed: u64,
     /// how often each call gave each answer
     answers: BTreeMap<(usize, u32), u64>,
-    /// how often attempts, scans, settlings and checks that were not refused came out in each way
+    /// how often attempts, scans, settlings and checks that were not refused came out in each way, and how often a call
+    /// was handed other measures
     outcomes: BTreeMap<(usize, &'static str), u64>,
 }
 
@@ -146,7 +150,7 @@ impl Run {
         let same = rows.eq(packed.counts.iter().copied());
         self.expect("the counts are the dots of each row", (answer, counted) == (0, 0) && same);
         let sum: i64 = packed.counts.iter().map(|&count| i64::from(count)).sum();
-        let total = packed.stats[START_DOTS] + packed.stats[ON] - packed.stats[OFF];
+        let total = packed.stats[STATS_START_DOTS] + packed.stats[STATS_ON] - packed.stats[STATS_OFF];
         self.expect("the sum of the counts is the dot total of the ledger", sum == total);
     }
 
@@ -156,7 +160,7 @@ impl Run {
         let plate = Plate::new(after, None);
         let table: Vec<i64> = after.table.iter().map(|&t| i64::from(t)).collect();
         let dots: i64 = after.dots.iter().map(|&dot| i64::from(dot)).sum();
-        let fall = first[START_ERROR] - stats[ERROR];
+        let fall = first[STATS_START_ERROR] - stats[STATS_ERROR];
         let answered = match call {
             _ if answer > 0 => accepted == 0,
             Call::TryToggle | Call::TrySwap => accepted == i64::from(after.change < 0),
@@ -166,10 +170,13 @@ impl Run {
         let claims = [
             ("nothing draws 20 or 21", matches!(answer, 0 | 8 | 9 | 22)),
             ("the table is T", table == plate.filtered_error()),
-            ("E now is the sum", stats[ERROR] == plate.sum_of_squares()),
-            ("E at the start stays", stats[START_ERROR] == first[START_ERROR]),
-            ("the dots at the start stay", stats[START_DOTS] == first[START_DOTS]),
-            ("the dot total is the first one + on - off", dots == first[START_DOTS] + stats[ON] - stats[OFF]),
+            ("E now is the sum", stats[STATS_ERROR] == plate.sum_of_squares()),
+            ("E at the start stays", stats[STATS_START_ERROR] == first[STATS_START_ERROR]),
+            ("the dots at the start stay", stats[STATS_START_DOTS] == first[STATS_START_DOTS]),
+            (
+                "the dot total is the first one + on - off",
+                dots == first[STATS_START_DOTS] + stats[STATS_ON] - stats[STATS_OFF],
+            ),
             ("the fall is at least 255 for each accepted change", fall >= 255 * after.accepted()),
             ("the answer is that of its accepted changes, and a settling rests within few scans", answered),
         ];
@@ -236,7 +243,7 @@ impl Run {
     fn file(&mut self, plate: Handed, settled: bool) {
         let mut handed = generate::filed::exact(&generate::filed::of(plate));
         let answer = self.compare(Call::CheckFiled, &mut handed);
-        let [agrees, fits, rests] = [AGREES, FITS, RESTS].map(|at| handed.verdict[at] == 1);
+        let [agrees, fits, rests] = [VERDICT_AGREES, VERDICT_FITS, VERDICT_RESTS].map(|at| handed.verdict[at] == 1);
         self.expect("a plate filed agrees, fits and rests", answer == 0 && agrees && fits && (rests || !settled));
     }
 
@@ -474,7 +481,7 @@ impl Run {
                 let occurred = self.answers.contains_key(&(index, number));
                 self.expect(&format!("{call:?} never answered {number}"), occurred);
             }
-            for way in outcomes_of(call) {
+            for way in outcomes_of(call).iter().chain(call.takes_measures().then_some(&OTHER)) {
                 let occurred = self.outcomes.contains_key(&(index, way));
                 self.expect(&format!("{call:?} was never {way}"), occurred);
             }
@@ -495,11 +502,15 @@ fn outcomes_of(call: Call) -> &'static [&'static str] {
 /// The ways in which a check comes out, those at rest last. Where the figure differs the ledger does not fit.
 const CHECKED: [&str; 6] = ["fits", "agrees", "differs", "fits and rests", "agrees and rests", "differs and rests"];
 
+/// A slice of measures that are not five, with a call that takes one.
+const OTHER: &str = "handed other measures";
+
 fn outcome(call: Call, answer: u32, before: &Handed, after: &Handed) -> Option<&'static str> {
     match call {
+        _ if call.takes_measures() && before.other_measures.is_some() => Some(OTHER),
         _ if answer > 0 => None,
         Call::CheckFiled => {
-            let [agrees, fits, rests] = [AGREES, FITS, RESTS].map(|at| after.verdict[at] == 1);
+            let [agrees, fits, rests] = [VERDICT_AGREES, VERDICT_FITS, VERDICT_RESTS].map(|at| after.verdict[at] == 1);
             let way = if fits { 0 } else { 2 - usize::from(agrees) };
             Some(CHECKED[way + 3 * usize::from(rests)])
         }

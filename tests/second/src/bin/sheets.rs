@@ -8,7 +8,7 @@
 //! PLATEMAKER_SEED=N repeats the run of a seed.
 
 use second::generate::{self, Random};
-use second::handed::{Call, Handed, AGREES, FITS, RESTS, VERDICT};
+use second::handed::{Call, Handed, VERDICT, VERDICT_AGREES, VERDICT_FITS, VERDICT_RESTS};
 use second::library;
 use second::plain::Second;
 use second::sheet::{self, PROGRAM_BYTES, PROGRAM_CELLS};
@@ -107,7 +107,7 @@ fn is_good(printed: &[u8]) -> bool {
     let mut wanted = handed.clone();
     let number = Second::default().call(Call::CheckFiled, &mut wanted);
     let (answer, guards) = library::call(Call::CheckFiled, &mut handed);
-    let good = [AGREES, FITS, RESTS].iter().all(|&at| handed.verdict[at] == 1);
+    let good = [VERDICT_AGREES, VERDICT_FITS, VERDICT_RESTS].iter().all(|&at| handed.verdict[at] == 1);
     (answer, number) == (0, 0) && handed == wanted && guards && good
 }
 
