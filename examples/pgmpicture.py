@@ -1,8 +1,8 @@
 #!/usr/bin/env python3
-"""Draws a PGM and the plate that examples/pgmplate.c made of it side by side, with the squared error that it printed.
+"""Draws a PGM and the plate that `plate settle` made of it side by side, with the squared error that it told.
 
-    target/pgmplate <examples/hills.pgm 2>&1 >target/hills.pbm |
-        examples/pgmpicture.py examples/hills.pgm target/hills.pbm docs/pgmplate.png
+    target/bin/plate settle -o target/hills.pbm examples/hills.pgm 2>&1 |
+        examples/pgmpicture.py examples/hills.pgm target/hills.pbm docs/hills.png
 
 With --check as the first word it tests that the file holds just this picture.
 """
@@ -40,7 +40,7 @@ def read_pbm(path):
 
 def main(words):
     pgm, pbm, path = words[-3:]
-    after = re.search(r"^settled: squared error (\d+)", sys.stdin.read(), re.MULTILINE).group(1)
+    after = re.search(r"^\d+ (\d+)", sys.stdin.read(), re.MULTILINE).group(1)
     panels = [
         panel(read_pgm(pgm), "PGM", ENLARGED),
         panel(read_pbm(pbm), "PBM, SETTLED, SQUARED ERROR " + after, ENLARGED),

@@ -1,8 +1,8 @@
 #!/usr/bin/env python3
 """Draws a relief, its start and its settled plate side by side, with the squared errors that the program printed.
 
-    target/plate <examples/plot.sheet | examples/picture.py examples/plot.sheet docs/plot.png
-    target/plate <examples/plot.sheet | examples/picture.py --check examples/plot.sheet docs/plot.png
+    target/halftone <examples/plot.sheet | examples/picture.py examples/plot.sheet docs/plot.png
+    target/halftone <examples/plot.sheet | examples/picture.py --check examples/plot.sheet docs/plot.png
 
 The first writes the picture, the second tests that the file holds just this picture.
 """
@@ -23,7 +23,7 @@ def read_gray(path):
 
 
 def read_plates(text):
-    """What examples/plate.c prints: the start and the settled plate, each with its squared error."""
+    """What examples/halftone.c prints: the start and the settled plate, each with its squared error."""
     plates = []
     for line in text.split("\n"):
         figure = re.match(r"(?:start|settled): squared error (\d+)", line)
