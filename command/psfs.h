@@ -1,4 +1,4 @@
-/* The ready psfs of the command, and what it takes where nothing is said: docs/GUIDE.md has how they were chosen. */
+/* The ready psfs of the command, and what it takes where nothing is said: docs/MEASUREMENTS.md has how they were chosen. */
 #ifndef PSFS_H
 #define PSFS_H
 

@@ -1,30 +1,37 @@
-"""Pictures side by side with captions, as a PNG that is written or held against a file."""
+"""Pictures in rows with captions, as a PNG that is written or held against a file."""
 import struct
-import sys
 import zlib
 
 from glyphs import pixels
 
-MARGIN, CAPTION = 12, 2
+MARGIN, LETTER, LEADING = 12, 2, 5
 PAPER, INK = 255, 0
 
 
 def panel(rows, caption, enlarged):
-    """One picture, each cell so many pixels wide and high, with its caption below."""
-    width = len(rows[0]) * enlarged
+    """One picture, each cell so many pixels wide and high, with the lines of its caption below."""
     drawn = [[cell for cell in row for _ in range(enlarged)] for row in rows for _ in range(enlarged)]
-    drawn += [[PAPER] * width for _ in range(MARGIN)]
-    for line in pixels(caption, CAPTION):
-        drawn.append(([INK if inked else PAPER for inked in line] + [PAPER] * width)[:width])
-    return drawn
+    drawn += [[]] * (MARGIN - LEADING)
+    for line in caption:
+        drawn += [[]] * LEADING
+        drawn += [[INK if ink else PAPER for ink in inked] for inked in pixels(line, LETTER)]
+    width = max(map(len, drawn))
+    return [line + [PAPER] * (width - len(line)) for line in drawn]
 
 
-def picture(panels):
-    """The panels side by side."""
-    between = [PAPER] * MARGIN
-    rows = [sum((between + part[y] for part in panels), []) + between for y in range(len(panels[0]))]
-    blank = [[PAPER] * len(rows[0]) for _ in range(MARGIN)]
-    return blank + rows + blank
+def beside(panels):
+    """Panels side by side, with a margin before each and after the last."""
+    between, height = [PAPER] * MARGIN, max(map(len, panels))
+    filled = [part + [[PAPER] * len(part[0])] * (height - len(part)) for part in panels]
+    return [sum((between + part[y] for part in filled), []) + between for y in range(height)]
+
+
+def picture(grid):
+    """Rows of panels, one below the other."""
+    rows = [beside(panels) for panels in grid]
+    width = max(len(row[0]) for row in rows)
+    blank = [[PAPER] * width for _ in range(MARGIN)]
+    return blank + [line + [PAPER] * (width - len(line)) for row in rows for line in row + blank]
 
 
 def scanlines(rows):
@@ -54,14 +61,14 @@ def holds(data, rows):
         body = data[at + 8 : at + 8 + length]
         header, packed = header + body * (name == b"IHDR"), packed + body * (name == b"IDAT")
         at += 12 + length
-    size = struct.unpack(">II", header[:8])
-    return size == (len(rows[0]), len(rows)) and zlib.decompress(packed) == scanlines(rows)
+    size = struct.pack(">II", len(rows[0]), len(rows))
+    return header[:8] == size and zlib.decompressobj().decompress(packed) == scanlines(rows)
 
 
-def keep(panels, path, check):
-    """Writes the picture of the panels, or tests that the file holds just this picture."""
-    rows = picture(panels)
-    if not check:
-        open(path, "wb").write(png(rows))
-    elif not holds(open(path, "rb").read(), rows):
-        sys.exit(f"{path}: not the picture that is drawn now")
+def keep(grid, path, check):
+    """Writes the picture of the panels, or answers whether the file holds just this picture."""
+    rows = picture(grid)
+    if check:
+        return path.exists() and holds(path.read_bytes(), rows)
+    path.write_bytes(png(rows))
+    return True
