@@ -1,12 +1,13 @@
 /*
  * platemaker: turns gray into a one-colour plate of dots by direct binary search, with a squared error that is proved
  * to be that of the dots. For C99 and later, and for C++; link with `pkg-config --cflags --libs platemaker`, or with
- * what `make lib` puts in target/lib. examples/library.c is a whole program; docs/GUIDE.md begins with recipes.
+ * what `make lib` puts in target/lib. examples/library.c is a whole program; docs/GUIDE.md begins with recipes;
+ * docs/SPECIFICATION.md has the sums, the rules, the formats and the exact condition of every refusal.
  *
- * Each function but pm_version answers a status: 0, or a refusal number (enum pm_refusal; pm_refusal_text has words for
- * it). A comment that says what a function draws names all the numbers that it can answer. Where several are due it is
- * the least of them, unless the comment gives another order. On a refusal nothing behind any pointer changes, save the
- * byte offset of the three functions for sheets.
+ * Each function of the library but pm_version answers a status: 0, or a refusal number (enum pm_refusal;
+ * pm_refusal_text has words for it). A comment that says what a function draws names all the numbers that it can
+ * answer. Where several are due it is the least of them, unless the comment gives another order. On a refusal nothing
+ * behind any pointer changes, save the byte offset of the three functions for sheets.
  *
  * A buffer is a pointer and a length in elements. The length has to be the buffer's own: one that does not fit the
  * measures is refused (5), but none can be checked against the memory that is there. An empty buffer, of length 0, may
@@ -86,7 +87,7 @@ enum {
     PM_VERDICT          /* how many numbers there are */
 };
 
-/* the refusal numbers */
+/* the refusal numbers: docs/SPECIFICATION.md, Refusals, has the exact condition of each, and the order of each call */
 enum pm_refusal {
     PM_REFUSED_SIZE = 1,     /* width or height */
     PM_REFUSED_RADIUS = 2,   /* radius */

@@ -11,7 +11,8 @@
     print("good" if check(Path("hills.filed").read_bytes()).good else "not good")
 
 What the library refuses is raised as `Refused`, and then nothing has changed. It judges lengths and values; here only
-types are judged, and numbers that it cannot be handed (OverflowError). include/platemaker.h says what each call does.
+types are judged, and numbers that it cannot be handed (OverflowError). include/platemaker.h says what each call does,
+docs/SPECIFICATION.md by which rules, and when a number is drawn.
 
 The library is that of the folder which PLATEMAKER_LIBRARY names, else that of this checkout or of this installation,
 else the system's. A Plate is for one thread at a time; different ones can be at work at the same time, since a call

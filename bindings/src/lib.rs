@@ -6,7 +6,8 @@
 //! The calls on a plate, [`start`] to [`converge`] and [`write_sheet`], take the measures first. They draw 5 where
 //! these are not [`MEASURES`] numbers, before all else, and then 1 to 4 by these numbers.
 //!
-//! `make lib` builds the library; this crate links the static one.
+//! docs/SPECIFICATION.md has the rules, and the exact condition of every refusal number. `make lib` builds the library;
+//! this crate links the static one.
 //!
 //! ```
 //! use platemaker::{converge, start, Measures, STATS, STATS_ERROR};
@@ -112,7 +113,7 @@ pub fn autocorrelation(radius: usize, psf: &[u8], out: &mut [i32]) -> u32 {
     unsafe { header::pm_autocorrelation(radius, psf.as_ptr(), psf.len(), out.as_mut_ptr(), out.len()) }
 }
 
-/// The filtered error of every cell (document 01's table), into table. Draws 1, 2, 5, 6, 7.
+/// The filtered error of every cell (the table), into table. Draws 1, 2, 5, 6, 7.
 pub fn filtered_error(
     width: usize,
     height: usize,
