@@ -27,9 +27,8 @@ enum status find_psf(const char *name, const struct psf **psf) {
     for (*psf = ready_psfs; (*psf)->name != NULL; ++*psf) {
         if (strcmp((*psf)->name, name) == 0) return GOOD;
     }
-    if (strcmp(name, "-") != 0 && strchr(name, '/') == NULL && access(name, F_OK) != 0) {
-        return tell(TROUBLE, USAGE("there is no ready psf and no file '%s'"), name);
-    }
+    int unknown = strcmp(name, "-") != 0 && strchr(name, '/') == NULL && access(name, F_OK) != 0;
+    if (unknown) return tell(TROUBLE, USAGE("there is no ready psf and no file '%s'"), name);
     struct input input;
     enum status status = read_file(name, &input);
     given.name = input.name;
