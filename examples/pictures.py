@@ -16,10 +16,10 @@ ROOT = Path(__file__).resolve().parent.parent
 sys.dont_write_bytecode = True
 sys.path += [str(ROOT / "bench"), str(ROOT / "python")]
 
+import settling
 from panels import INK, PAPER, keep, panel
 from platemaker import DEFAULT_PSF, PSFS, Plate, read_pbm, read_pgm
 from reliefs import relief
-from settling import YARDSTICKS, build, read_ready, settle
 
 WIDEST = 830  # pixels that a page shows without scaling them, which would make false patterns
 
@@ -82,14 +82,15 @@ def hills():
 
 def psfs():
     """The ready psfs on the hills, with what can be compared: the error as a near eye sees it, and as a far one."""
-    build()
+    settling.build()
     gray = relief("hills")
-    ready, reach, start = read_ready()
+    ready, reach, start = settling.read_ready()
+    near, far = settling.YARDSTICKS[0], settling.YARDSTICKS[-1]
     panels = []
     for name, psf in ready:
         plate, _ = settled(gray, name)
-        seen = settle(gray, psf, reach, start).yardsticks
-        lines = [f"THROUGH {YARDSTICKS[0]:g} CELL {seen[0]:.2f}", f"THROUGH {YARDSTICKS[-1]:g} CELLS {seen[-1]:.2f}"]
+        seen = settling.settle(gray, psf, reach, start).yardsticks
+        lines = [f"THROUGH {near:g} CELL {seen[0]:.2f}", f"THROUGH {far:g} CELLS {seen[-1]:.2f}"]
         panels.append(panel(inked(part(plate, 0, 0, 128, 112)), [name.upper(), *lines], 2))
     return [panels[:3], panels[3:]]
 
