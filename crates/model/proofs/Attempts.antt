@@ -40,7 +40,7 @@ module _ (m : Measures) (psf gray dots : List ℕ) (table : List ℤ) (s : Stats
       → LaterFits m psf gray dots table s × Legal (targetFor m psf gray) dots (toggle dots (cellAt (m .width) row col))
   toggle-ready row col taken =
       let (fits, r, c) = toggle-enters m psf gray dots table s row col taken in
-      (fits, toggle-legal (targetFor m psf gray) dots (fits-halftone (fits .plate .halftone)) _ (cell< r c))
+      (fits, toggle-legal (targetFor m psf gray) dots (fits-halftone (fits .plate .halftone)) refl _ (cell< r c))
 
   pub swap-ready : (row col row′ col′ : ℕ) → swapRefusal m psf gray dots table s row col row′ col′ ≡ 0
       → LaterFits m psf gray dots table s

@@ -20,6 +20,7 @@ use Rattle.model.specs.Screen.{startDots}
 use Rattle.model.specs.Refusal.{Refusal, _when_, firstOf, either, outside, differs, above}
 use Rattle.model.specs.Refusal.{badDot, badGiven, handed}
 use Rattle.model.specs.Refusal.{autocorrelationRefusals, halftoneRefusals, startRefusals, inputRefusals}
+use Rattle.model.specs.Error.{targetOf}
 use Rattle.model.specs.Refusal.{autocorrelationRefusal, halftoneRefusal, startRefusal, PsfFits, HalftoneFits}
 use Rattle.model.specs.Refusal.{PlateFits}
 use Rattle.model.proofs.Basic.{at-most-tail}
@@ -176,7 +177,7 @@ pub halftone-by : (w h r : ℕ) (psf gray dots : List ℕ) (table : ℕ) {n : �
     → eqb (total psf) 0 || ltb 1024 (total psf) ≡ false
     → (n ≡ h * w → length dots ≡ h * w)
     → AtMost 1 dots
-    → HalftoneFits w h r psf gray dots table
+    → HalftoneFits (targetOf w h r psf gray) dots table
 halftone-by w h r psf gray dots table {n} size radius exact sum long bits =
     let (w-inside, h-inside) = size-inside w h size in
     let lengths : List ℕ = length gray ∷ n ∷ table ∷ [] in
@@ -189,12 +190,13 @@ halftone-by w h r psf gray dots table {n} size radius exact sum long bits =
       dots-length = long d-is;
       table-length = t-is;
       bits = bits;
+      top-black = refl;
     }
 
 -- the filtered error, handed a table of that length
 pub halftone-fits : (w h r : ℕ) (psf gray dots : List ℕ) (table : ℕ)
     → halftoneRefusal w h r psf gray dots (table ∷ []) ≡ 0
-    → HalftoneFits w h r psf gray dots table
+    → HalftoneFits (targetOf w h r psf gray) dots table
 unfolding halftoneRefusal
 halftone-fits w h r psf gray dots table e =
     let (size, (radius, (exact, (sum, (dot, _)))))
@@ -202,7 +204,8 @@ halftone-fits w h r psf gray dots table e =
     halftone-by w h r psf gray dots table size radius exact sum (λ e. e) (record { each = none-above 1 dots dot })
 
 -- a plate that fits draws none of 1, 2, 5, 6 and 7
-pub halftone-none : (w h r : ℕ) (psf gray dots : List ℕ) (table : ℕ) → HalftoneFits w h r psf gray dots table
+pub halftone-none : (w h r : ℕ) (psf gray dots : List ℕ) (table : ℕ)
+    → HalftoneFits (targetOf w h r psf gray) dots table
     → None (halftoneRefusals w h r psf gray dots (table ∷ []))
 halftone-none w h r psf gray dots table f = (
   within 256 w (f .wide) nor within 256 h (f .high),

@@ -66,8 +66,7 @@ module _ (m : Measures) (psf gray dots : List ℕ) (table : ℕ) (bytes : AtMost
   start-state =
       let f = start-fits .halftone in
       fresh-fits t begun (f .bits) (f .dots-length)
-      (squared-least (m .width) (m .height) (m .radius) psf gray begun f)
-      (squared-most (m .width) (m .height) (m .radius) psf gray begun f bytes)
+      (squared-least f) (squared-most f bytes)
 
   -- what is left is what later calls accept
   pub start-later : LaterFits m psf gray begun (filteredErrors t begun) (freshStats t begun)

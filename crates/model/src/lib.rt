@@ -9,6 +9,12 @@ pub struct Measures {
     pub start: usize,
 }
 
+// A cell of a plate by its row and its column.
+pub struct Cell {
+    pub row: usize,
+    pub col: usize,
+}
+
 // The figures of a ledger that are kept from the start on: the squared error and the dots at the start, and how many
 // toggles on, toggles off and swaps were accepted since.
 pub struct Figures {

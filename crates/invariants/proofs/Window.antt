@@ -1,8 +1,10 @@
 -- Laws of the window update: the sizes of entries, and what windows make of a table.
---   small-tabulate, table-small, square-small  entries at most k from 0: of a list, of a table, of a square
+--   small-tabulate, small-by, square-small     entries at most k from 0: of a list, of a table, of a square
 --   addWindow-tabulate                         what one window makes of a table
 --   scattered-none, scattered-next             the table that many of them leave, one after the other
 --   gain-kernel                                the window of the cell i gains c(q - i) at q
+--   store-table                                the table where a byte is stored, by a window
+--   table-small                                the numbers of the table of a halftone that fits
 --   windows-autocorrelation                    the autocorrelation is a table built so
 use mathlib.Core.Path.{_≡_, refl, sym, _∙_, ap, ap₂, subst}
 use mathlib.Core.Bool.{Bool, true, false}
@@ -13,7 +15,7 @@ use native.Mathlib.Decide.{decLt}
 use native.Mathlib.Omega.{arith}
 use lib.Dec.{ltb}
 use lib.IntN.{ℤ, pos, negsuc, negℤ, natAbs, _+ℤ_, _-ℤ_, _*ℤ_}
-use lib.ListN.{length, getD, drop, replicate, length-replicate, getD-replicate}
+use lib.ListN.{length, getD, set, drop, replicate, length-replicate, getD-replicate}
 use lib.ListN.{List·getD-append, List·getD-map, List·getD-eq-default}
 use lib.Seq.{getD-drop, getD-append-add}
 use Rattle.algebra.specs.Sum.{sumTo, sumFrom}
@@ -22,20 +24,23 @@ use Rattle.algebra.proofs.Order.{natAbs-mul-le, show≡}
 use Rattle.algebra.proofs.Grid.{row<, column<}
 use Rattle.algebra.proofs.Sum.{sum-next, sum-cong}
 use Rattle.algebra.proofs.SumOrder.{sum-cells}
-use Rattle.model.specs.Basic.{pick, tabulate, gridAt, squareAt}
+use Rattle.model.specs.Basic.{pick, tabulate, AtMost, gridAt, squareAt}
 use Rattle.model.specs.Psf.{psfAt, autocorrelation}
-use Rattle.model.specs.Error.{Target, row, kernel}
-use Rattle.model.specs.Window.{gain, addWindow, scattered, Small, Scaled, HoldsKernel}
+use Rattle.model.specs.Error.{Target, cells, row, kernel, mostFiltered, filteredError, filteredErrors}
+use Rattle.model.specs.Refusal.{HalftoneFits}
+use Rattle.invariants.specs.Window.{gain, addWindow, scattered, Small, Scaled, HoldsKernel}
 use Rattle.model.proofs.Basic.{length-tabulate, getD-tabulate, tabulate-each, tabulate-cong}
 use Rattle.model.proofs.Basic.{square-map}
 use Rattle.model.proofs.Psf.{psf-entry}
+use Rattle.model.proofs.Change.{store-moves-table}
+use Rattle.model.proofs.Halftone.{filtered-most}
 
 -- ---- sizes
 pub small-tabulate : (k n : ℕ) (f : ℕ → ℤ) → ((q : ℕ) → q < n → natAbs (f q) ≤ k) → Small k (tabulate n f)
 small-tabulate k n f h = record { each = tabulate-each (λ z. natAbs z ≤ k) (pos 0) n f (omega arith) h }
 
-pub table-small : {k : ℕ} (n : ℕ) (f : ℕ → ℤ) {t : List ℤ} → t ≡ tabulate n f → ((q : ℕ) → natAbs (f q) ≤ k) → Small k t
-table-small {k} n f e h = subst (Small k) (sym e) (small-tabulate k n f (λ q l. h q))
+pub small-by : {k : ℕ} (n : ℕ) (f : ℕ → ℤ) {t : List ℤ} → t ≡ tabulate n f → ((q : ℕ) → natAbs (f q) ≤ k) → Small k t
+small-by {k} n f e h = subst (Small k) (sym e) (small-tabulate k n f (λ q l. h q))
 
 pub small-bytes : {k : ℕ} (l : List ℕ) → ((i : ℕ) → getD l i 0 ≤ k) → Small k (map pos l)
 small-bytes {k} l h = record { each = λ q. subst (λ (z : ℤ). natAbs z ≤ k) (sym (List·getD-map pos l q 0)) (h q) }
@@ -107,6 +112,31 @@ module _ (t : Target) (c : List ℤ) (k : HoldsKernel (t .radius) (t .psf) c) wh
   pub gain-kernel : (i q : ℕ) → gain (t .width) (2 * t .radius) c (i / t .width) (i % t .width) q ≡ kernel t q i
   unfolding kernel
   gain-kernel i q = k .at _ _
+
+  -- a byte is stored at the cell m, and the table follows
+  pub store-table : (dots : List ℕ) → length dots ≡ cells t → (m byte : ℕ) → m < cells t
+      → filteredErrors t (set dots m byte)
+      ≡ addWindow (t .width) (2 * t .radius) c
+      (pos (t .step) *ℤ (pos byte -ℤ pos (getD dots m 0))) (m / t .width) (m % t .width) (filteredErrors t dots)
+  unfolding filteredErrors
+  store-table dots long m byte h =
+      tabulate-cong (cells t) (λ q l.
+      store-moves-table t dots long m byte q h
+      ∙ ap (λ z. filteredError t dots q +ℤ amount *ℤ z) (sym (gain-kernel m q)))
+      ∙ sym (addWindow-tabulate (t .width) (2 * t .radius) c (cells t)
+      (filteredError t dots) amount (m / t .width) (m % t .width))
+    where
+      amount : ℤ
+      amount = pos (t .step) *ℤ (pos byte -ℤ pos (getD dots m 0))
+
+-- ---- the table of a halftone that fits
+module _ {t : Target} {dots : List ℕ} {n : ℕ} (f : HalftoneFits t dots n) (bytes : AtMost 255 (t .gray)) where
+  pub filtered-small : Small mostFiltered (filteredErrors t dots)
+  unfolding filteredErrors
+  filtered-small = small-tabulate mostFiltered (cells t) (filteredError t dots) (λ q l. filtered-most f bytes q)
+
+  pub table-small : {table : List ℤ} → table ≡ filteredErrors t dots → Small mostFiltered table
+  table-small e = subst (Small mostFiltered) (sym e) filtered-small
 
 -- ---- the autocorrelation: a window of the psf for each of its entries, times that entry, at its mirrored place
 module _ (r : ℕ) (psf : List ℕ) where

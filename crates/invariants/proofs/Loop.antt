@@ -10,12 +10,13 @@ use mathlib.Core.Path.{_≡_, _∙_, ap}
 use Prim.Native.Nat.{ℕ, suc, _≤_, _<_}
 use lib.ListN.{length, getD, drop, drop-of-length-le}
 use lib.Seq.{drop-cons}
 use Rattle.model.specs.Basic.{pick}
 use Rattle.model.specs.Error.{Target}
-use Rattle.model.specs.Partners.{Offset, offsets, biased, partner}
+use Rattle.model.specs.Partners.{Offset, offsets, partner}
+use Rattle.invariants.specs.Partners.{offsetOf, itself}
 use Rattle.model.specs.Scan.{suits, swapsBy, Sweep, tryEach}
 use Rattle.model.specs.Change.{Move, swap, lowers}
 use Rattle.model.proofs.Scan.{more, try-none, try-step}
 
 module _ (t : Target) (reach : ℕ) (s : Sweep) (m : ℕ) where
   abbrev dots : List ℕ
@@ -34,7 +35,7 @@ module _ (t : Target) (reach : ℕ) (s : Sweep) (m : ℕ) where
 
   module _ (j : ℕ) (h : j < length (offsets reach)) where
     abbrev offset : Offset
-    offset = getD (offsets reach) j (biased 6 6)
+    offset = getD (offsets reach) j (offsetOf itself)
 
     abbrev move : Move
     move = swap dots m (partner (t .width) m offset)
@@ -44,7 +45,7 @@ module _ (t : Target) (reach : ℕ) (s : Sweep) (m : ℕ) where
 
     next : left j ≡ tryEach t s (pick (suits t dots m offset) (move ∷ others) others)
     unfolding swapsBy
-    next = ap (λ l. tryEach t s (attempts l)) (drop-cons (offsets reach) j (biased 6 6) h)
+    next = ap (λ l. tryEach t s (attempts l)) (drop-cons (offsets reach) j (offsetOf itself) h)
 
     -- it is passed over
     pub pass-unsuited : suits t dots m offset ≡ false → left j ≡ left (suc j)

@@ -30,12 +30,16 @@ pub record Small (k : ℕ) (l : List ℤ) : Type 0 where
 pub record Scaled (k : ℕ) (amount : ℤ) (l : List ℤ) : Type 0 where
   pub each : (q : ℕ) → natAbs (amount *ℤ getD l q (pos 0)) ≤ k
 
+-- the largest size of a kernel entry: 1,024²
+abbrev pub mostKernel : ℕ
+mostKernel = 1048576
+
+-- the largest size of 255 × (P - c): twice that, times 255
+abbrev pub mostWorth : ℕ
+mostWorth = 534773760
+
 -- c at every offset, in a square of reach 2r at the front of a list
 pub record HoldsKernel (r : ℕ) (psf : List ℕ) (c : List ℤ) : Type 0 where
   pub long : (4 * r + 1) * (4 * r + 1) ≤ length c
-  pub small : Small 1048576 c
+  pub small : Small mostKernel c
   pub at : (dy dx : ℤ) → squareAt (pos 0) (2 * r) c dy dx ≡ autocorrelation r psf dy dx
-
--- the largest size of a table entry: 255 × 1,024²
-abbrev pub mostFiltered : ℕ
-mostFiltered = 267386880

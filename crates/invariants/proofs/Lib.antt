@@ -1,0 +1,3 @@
+-- The laws of what the code's buffers hold.
+pub mod Window
+pub mod Loop
