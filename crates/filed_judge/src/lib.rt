@@ -13,13 +13,13 @@ use filed_rest::at_rest;
 use filter_sums::filter_and_square;
 use judge_input::judge_start;
 use judge_ledger::judge_ledger;
-use judge_parts::sum;
 use model::Figures;
 use model::FiledFigures;
 use model::Measures;
 use model::Resting;
 use model::Stats;
 use model::Verdict;
+use slices::sum;
 
 // the dots at the start: the dots on the plate - on + off; where that is below 0, the greatest number, which 21 refuses
 fn start_dots(count: usize, on: u64, off: u64) -> u64

@@ -6,7 +6,6 @@ ghost use Rattle.model.specs.Psf.{total};
 ghost use Rattle.model.specs.Sheet.{InRange};
 ghost use Rattle.model.specs.Format.{body, parse, sheetOf, fieldNext};
 ghost use Rattle.model.specs.Filed.{mostFigure, figureParts, figuresOf, filedEnd, filedRoom};
-use judge_parts::sum;
 use model::Field;
 use model::FiledEnd;
 use model::FiledFigures;
@@ -21,6 +20,7 @@ use sheet_read::has_room;
 use sheet_read::judge_blocks;
 use sheet_read::judge_end;
 use sheet_read::side;
+use slices::sum;
 
 // one of the six figures, and the byte that ends it
 fn next_figure(s: &[u8], done: Field, end: u8) -> Field

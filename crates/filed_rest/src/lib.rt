@@ -7,34 +7,14 @@ ghost use Rattle.model.specs.Ledger.{freshStats};
 ghost use Rattle.model.specs.Refusal.{PlateFits};
 ghost use Rattle.model.specs.FiledCalls.{rests};
 use filter_correlate::kernel;
-use judge_parts::sum;
 use model::Figures;
 use model::Measures;
 use model::Stats;
 use search_swaps::swap_all;
 use search_toggles::toggle_all;
-
-fn copy_dots(dots: &[u8], out: &mut [u8])
-    requires { ⌜ length (now out) ≡ length (now dots) ⌝ }
-    ensures { λ _. ⌜ now (out .exit) ≡ now (dots .entry) ⌝ }
-{
-    let mut i: usize = 0;
-    while i < dots.len() {
-        out[i] = dots[i];
-        i += 1;
-    }
-}
-
-fn copy_table(table: &[i32], out: &mut [i32])
-    requires { ⌜ length (now out) ≡ length (now table) ⌝ }
-    ensures { λ _. ⌜ now (out .exit) ≡ now (table .entry) ⌝ }
-{
-    let mut i: usize = 0;
-    while i < table.len() {
-        out[i] = table[i];
-        i += 1;
-    }
-}
+use slices::copy_bytes;
+use slices::copy_numbers;
+use slices::sum;
 
 // a fresh ledger of dots with that squared error
 fn fresh(m: Measures, psf: &[u8], gray: &[u8], dots: &[u8], squared: i64) -> Stats
@@ -96,8 +76,8 @@ pub fn at_rest(
     let n = dots.len();
     let mut some_dots = [0u8; 65536];
     let mut some_table = [0i32; 65536];
-    copy_dots(dots, &mut some_dots[..n]);
-    copy_table(table, &mut some_table[..n]);
+    copy_bytes(dots, &mut some_dots[..n]);
+    copy_numbers(table, &mut some_table[..n]);
     scans_clear(
         m,
         psf,

@@ -15,11 +15,12 @@ use Rattle.algebra.proofs.SumOrder.{natAbs-sum}
 use Rattle.model.specs.Basic.{tabulate, squareAt}
 use Rattle.model.specs.Psf.{total, autocorrelations}
 use Rattle.model.specs.Refusal.{PsfFits}
-use Rattle.model.specs.Window.{addWindow, scattered, Small, HoldsKernel, mostFiltered}
+use Rattle.invariants.specs.Window.{addWindow, scattered, Small, HoldsKernel}
+use Rattle.model.specs.Error.{mostFiltered}
 use Rattle.model.proofs.Basic.{tabulate-cong, square-append}
 use Rattle.model.proofs.Psf.{autocorrelation-nonneg, autocorrelation≤, autocorrelations-long, autocorrelations-at, side}
-use Rattle.model.proofs.Window.{small-tabulate, small-append, square-small}
-use Rattle.model.proofs.Window.{scattered-next, windows-autocorrelation}
+use Rattle.invariants.proofs.Window.{small-tabulate, small-append, square-small}
+use Rattle.invariants.proofs.Window.{scattered-next, windows-autocorrelation}
 use Rattle.filter_correlate.specs.Scatter.{mirroredAt, mirrored}
 
 pub table-next : (W R : ℕ) (c : List ℤ) (amount : ℕ → ℤ) (row col : ℕ → ℕ) (N n : ℕ) {a : ℤ} {t t′ : List ℤ}
@@ -48,7 +49,7 @@ mirrored-is r psf e =
     ap (λ n. mirroredAt r (map pos psf) n q) (length-map psf pos) ∙ windows-autocorrelation r psf e q)
 
 -- the entries of the autocorrelation
-kernel-small : (r : ℕ) (psf : List ℕ) → PsfFits r psf → Small 1048576 (autocorrelations r psf)
+kernel-small : (r : ℕ) (psf : List ℕ) → PsfFits r psf → Small mostKernel (autocorrelations r psf)
 unfolding autocorrelations
 kernel-small r psf f =
     small-tabulate 1048576 _ _ (λ q h.
@@ -59,11 +60,11 @@ kernel-small r psf f =
 
 -- ---- a list with the autocorrelation in its front holds the kernel
 pub front-holds : (r : ℕ) (psf : List ℕ) (l : List ℤ) {k : List ℤ} → PsfFits r psf → k ≡ autocorrelations r psf
-    → Small 1048576 l → HoldsKernel r psf (k ++ l)
+    → Small mostKernel l → HoldsKernel r psf (k ++ l)
 front-holds r psf l {k} f e s =
     record {
       long = simp length-append (omega (arith, long));
-      small = small-append k l (subst (Small 1048576) (sym e) (kernel-small r psf f)) s;
+      small = small-append k l (subst (Small mostKernel) (sym e) (kernel-small r psf f)) s;
       at = λ dy dx.
           square-append (pos 0) (2 * r) k l dy dx (omega (arith, long, ap (λ n. n * n) (side r)))
           ∙ ap (λ k. squareAt (pos 0) (2 * r) k dy dx) e ∙ autocorrelations-at r psf dy dx;

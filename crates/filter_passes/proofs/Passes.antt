@@ -20,11 +20,12 @@ use Rattle.model.specs.Basic.{tabulate, AtMost}
 use Rattle.model.specs.Psf.{total}
 use Rattle.model.specs.Error.{Target, targetOf, errorOf, error, filteredErrors, perceivedError}
 use Rattle.model.specs.Refusal.{HalftoneFits}
-use Rattle.model.specs.Window.{Small, mostFiltered}
+use Rattle.invariants.specs.Window.{Small}
+use Rattle.model.specs.Error.{mostFiltered}
 use Rattle.model.proofs.Basic.{table-long, getD-tabulate, tabulate-by, tabulate-cong}
 use Rattle.model.proofs.Psf.{weighed≤}
 use Rattle.model.proofs.Halftone.{errors-most}
-use Rattle.model.proofs.Window.{small-tabulate}
+use Rattle.invariants.proofs.Window.{small-tabulate}
 use Rattle.model.proofs.Spread.{perceived-spread, filtered-gathered}
 use Rattle.filter_window.specs.Run.{Ran}
 use Rattle.filter_passes.specs.Passes.{Added, spreadAt, spread, gatheredAt, gathered}

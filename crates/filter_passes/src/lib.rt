@@ -4,10 +4,11 @@ ghost use mathlib.Core.Path.{_≡_};
 ghost use Prim.Native.Nat.{ℕ, _+_, _*_, _/_, _%_, _<_, _≤_};
 ghost use lib.ListN.{length};
 ghost use Rattle.model.specs.Refusal.{PsfFits};
-ghost use Rattle.model.specs.Window.{Small, Scaled, mostFiltered};
+ghost use Rattle.invariants.specs.Window.{Small, Scaled};
+ghost use Rattle.model.specs.Error.{mostFiltered};
 ghost use Rattle.filter_passes.specs.Passes.{Added, spread, gathered};
 use filter_window::add_run;
-use filter_window::clear;
+use slices::clear_numbers;
 
 // Rows of n entries of c, times the amount, are added to the table: row y from `from + y × step` on in c, and from
 // `at + y × stride` on in the table.
@@ -54,7 +55,7 @@ pub fn spread(width: usize, height: usize, radius: usize, psf: &[u8], e: &[i32],
     requires { ⌜ length (now out) ≡ (height + 2 * radius) * (width + 2 * radius) ⌝ }
     ensures { λ _. ⌜ now (out .exit) ≡ spread width height radius (now (psf .entry)) (now (e .entry)) ⌝ }
 {
-    clear(out);
+    clear_numbers(out);
     let span = width + 2 * radius;
     let mut k: usize = 0;
     while k < psf.len() {
@@ -72,7 +73,7 @@ pub fn gather(width: usize, height: usize, radius: usize, psf: &[u8], g: &[i32],
     requires { ⌜ length (now out) ≡ height * width ⌝ }
     ensures { λ _. ⌜ now (out .exit) ≡ gathered width height radius (now (psf .entry)) (now (g .entry)) ⌝ }
 {
-    clear(out);
+    clear_numbers(out);
     let span = width + 2 * radius;
     let mut k: usize = 0;
     while k < psf.len() {

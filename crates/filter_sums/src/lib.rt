@@ -7,7 +7,8 @@ ghost use Rattle.algebra.specs.Sum.{sumTo};
 ghost use Rattle.model.specs.Basic.{tabulate, AtMost};
 ghost use Rattle.model.specs.Error.{errorOf, targetOf, filteredErrors, squaredError};
 ghost use Rattle.model.specs.Refusal.{HalftoneFits};
-ghost use Rattle.model.specs.Window.{Small, mostFiltered};
+ghost use Rattle.invariants.specs.Window.{Small};
+ghost use Rattle.model.specs.Error.{mostFiltered};
 use filter_passes::gather;
 use filter_passes::spread;
 

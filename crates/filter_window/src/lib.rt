@@ -4,7 +4,8 @@ ghost use Prim.Native.Nat.{ℕ, _+_, _*_, _-_, _<_, _≤_, min};
 ghost use lib.ListN.{length, getD};
 ghost use lib.IntN.{pos, natAbs};
 ghost use Rattle.model.specs.Basic.{tabulate};
-ghost use Rattle.model.specs.Window.{addWindow, Small, Scaled, mostFiltered};
+ghost use Rattle.invariants.specs.Window.{addWindow, Small, Scaled};
+ghost use Rattle.model.specs.Error.{mostFiltered};
 ghost use Rattle.filter_window.specs.Run.{Ran};
 
 // A run of n entries of c, times the amount, is added to the table's entries from `at` on.
@@ -68,16 +69,5 @@ pub fn add_window(
         let from = (y + reach - row) * side + (left + reach - col);
         add_run(table, at, c, from, n, amount);
         y += 1;
-    }
-}
-
-// every entry 0
-pub fn clear(table: &mut [i32])
-    ensures { λ _. ⌜ now (table .exit) ≡ tabulate (length (now (table .entry))) (λ q. pos 0) ⌝ }
-{
-    let mut q: usize = 0;
-    while q < table.len() {
-        table[q] = 0;
-        q += 1;
     }
 }

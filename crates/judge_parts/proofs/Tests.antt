@@ -1,6 +1,5 @@
 -- What the proofs of the judges share.
---   total-next              the sum of a list of bytes from an index on, as a loop takes it
---   above-here, above-next  whether one of them is above a bound, likewise
+--   above-here, above-next  whether one of the bytes from an index on is above a bound, as a loop takes it
 --   tests                   the laws by which a return is read off its tests
 --   sized, psf-most         what is known once 1 and 2 are judged; once 5 is
 use mathlib.Core.Bool.{true, not}
@@ -22,10 +21,6 @@ use Rattle.model.specs.Refusal.{Refusal, firstOf, differs, above, badSize, badR
 use Rattle.model.proofs.Refusal.{numbered, none, neither, size-inside}
 
 module _ (l : List ℕ) (i : ℕ) (h : i < length l) where
-  pub total-next : total (drop i l) ≡ getD l i 0 + total (drop (i + 1) l)
-  unfolding total
-  total-next = rw (add-one, drop-cons l i 0)
-
   pub above-here : (k : ℕ) → k < getD l i 0 → above k (drop i l) ≡ true
   unfolding above
   above-here k t = rw (drop-cons l i 0, lt-ltb)

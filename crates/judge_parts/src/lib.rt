@@ -9,20 +9,6 @@ ghost use Rattle.model.specs.Refusal.{firstOf, either, above, badSize, badRadiu
 ghost use Rattle.model.specs.Refusal.{badDot, badGiven, badMeasures};
 use model::Measures;
 
-// the sum of bytes, at most as many as the cells of the largest plate
-pub fn sum(bytes: &[u8]) -> usize
-    requires { ⌜ length (now bytes) ≤ 65536 ⌝ }
-    ensures { λ r. ⌜ r ≡ total (now (bytes .entry)) ⌝ }
-{
-    let mut sum: usize = 0;
-    let mut i = 0;
-    while i < bytes.len() {
-        sum += bytes[i] as usize;
-        i += 1;
-    }
-    sum
-}
-
 // whether a byte is above the limit
 fn any_above(limit: u8, bytes: &[u8]) -> bool
     ensures { λ r. ⌜ r ≡ above limit (now (bytes .entry)) ⌝ }

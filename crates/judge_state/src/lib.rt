@@ -11,8 +11,8 @@ ghost use Rattle.model.specs.State.{badTable, badStats};
 ghost use Rattle.model.specs.Basic.{someBelow};
 use filter_sums::filter_and_square;
 use judge_ledger::judge_ledger;
-use judge_parts::sum;
 use model::Stats;
+use slices::sum;
 
 // whether an entry differs
 fn differ(table: &[i32], fresh: &[i32]) -> bool

@@ -5,8 +5,8 @@ ghost use lib.ListN.{length};
 ghost use lib.Seq.{sets};
 ghost use Rattle.model.specs.Netpbm.{InSize, sizeLine, pbmHead, pgmHead, packedSize, cellsIn};
 use model::Size;
-use sheet_write::put_bytes;
 use sheet_write::put_field;
+use slices::put_bytes;
 use text_decimal::digit_count;
 
 // width and height in a line

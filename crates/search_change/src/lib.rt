@@ -9,7 +9,8 @@ ghost use lib.ListN.{length, getD};
 ghost use lib.Signed.{ltZ};
 ghost use Rattle.model.specs.Basic.{squareAt};
 ghost use Rattle.model.specs.Change.{signOf, sign, toggleSum, swapSum};
-ghost use Rattle.model.specs.Window.{Small, mostFiltered};
+ghost use Rattle.invariants.specs.Window.{Small};
+ghost use Rattle.model.specs.Error.{mostFiltered};
 
 // a value times s of a cell whose dot byte is `dot`
 pub fn signed(dot: u8, value: i32) -> i32

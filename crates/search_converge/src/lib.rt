@@ -1,7 +1,7 @@
 // Settling of a judged plate whose kernel is c, by its two scans.
 ghost use mathlib.Core.Path.{_≡_};
 ghost use Rattle.model.specs.Error.{targetFor, filteredErrors};
-ghost use Rattle.model.specs.Window.{HoldsKernel};
+ghost use Rattle.invariants.specs.Window.{HoldsKernel};
 ghost use Rattle.model.specs.State.{LaterFits};
 ghost use Rattle.model.specs.Reference.{reference};
 ghost use Rattle.model.specs.Calls.{atRest};

@@ -8,7 +8,8 @@ ghost use Rattle.model.specs.Basic.{pick, AtMost};
 ghost use Rattle.model.specs.Change.{sign, flipped};
 ghost use Rattle.model.specs.Error.{cellAt, mostSquared};
 ghost use Rattle.model.specs.Ledger.{onCount, offCount, swapCount, counted};
-ghost use Rattle.model.specs.Window.{addWindow, Small, mostFiltered};
+ghost use Rattle.invariants.specs.Window.{addWindow, Small};
+ghost use Rattle.model.specs.Error.{mostFiltered};
 use filter_window::add_window;
 use model::Stats;
 use search_change::signed;
@@ -25,7 +26,7 @@ pub fn flip(
     col: usize,
 )
     requires { ⌜ (row < height) × (col < width) × (width ≤ 256) × (height ≤ 256) × (radius ≤ 3) ⌝ }
-    requires { ⌜ ((4 * radius + 1) * (4 * radius + 1) ≤ length (now c)) × Small 1048576 (now c) ⌝ }
+    requires { ⌜ ((4 * radius + 1) * (4 * radius + 1) ≤ length (now c)) × Small mostKernel (now c) ⌝ }
     requires { ⌜ (length (now dots) ≡ height * width) × (length (now table) ≡ height * width) ⌝ }
     requires { ⌜ AtMost 1 (now dots) × Small mostFiltered (now table) ⌝ }
     ensures { λ _. ⌜ now (dots .exit) ≡ flipped (now (dots .entry)) (cellAt width row col) ⌝ }

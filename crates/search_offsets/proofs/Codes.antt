@@ -9,7 +9,8 @@ use native.Mathlib.Omega.{arith}
 use lib.IntN.{pos, natAbs, _+ℤ_}
 use lib.ListN.{length, getD, take, length-map, List·getD-map}
 use lib.Seq.{length-take-le, getD-take}
-use Rattle.model.specs.Partners.{Offset, offsetsOf, offsetsFrom, offsets, biased, HoldsOffsets}
+use Rattle.model.specs.Partners.{Offset, offsetsOf, offsetsFrom, offsets}
+use Rattle.invariants.specs.Partners.{biased, HoldsOffsets}
 use Rattle.model.specs.Refusal.{above}
 use Rattle.model.specs.Basic.{someBelow}
 use Rattle.model.proofs.Refusal.{none-above, neither}

@@ -3,7 +3,7 @@
 ghost use mathlib.Core.Path.{_≡_};
 ghost use Prim.Native.Nat.{_+_, _*_, _≤_, _<_};
 ghost use lib.ListN.{length};
-ghost use Rattle.model.specs.Partners.{HoldsOffsets};
+ghost use Rattle.invariants.specs.Partners.{HoldsOffsets};
 ghost use Rattle.search_offsets.specs.Codes.{near, within, Keeps};
 
 // the 168 offsets in document 01's order, a line for each sum of squares: the two digits of a byte are the row and the

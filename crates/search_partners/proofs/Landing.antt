@@ -14,7 +14,8 @@ use Rattle.algebra.proofs.Order.{show≡}
 use Rattle.algebra.proofs.Grid.{cell-row, cell-column}
 use Rattle.model.specs.Basic.{pick}
 use Rattle.model.specs.Error.{cellAt}
-use Rattle.model.specs.Partners.{biased, inside, lands, partner}
+use Rattle.model.specs.Partners.{inside, lands, partner}
+use Rattle.invariants.specs.Partners.{biased}
 
 -- along one coordinate: d - 6 on from place a
 abbrev place : (a d : ℕ) → ℤ

@@ -10,9 +10,9 @@ use lib.ListN.{length, getD, set, length-set}
 use lib.Seq.{getD-set-same, getD-set-other}
 use Rattle.algebra.proofs.Order.{natAbs-+ℤ, natAbs-negℤ, natAbs-mul-le}
 use Rattle.model.specs.Basic.{squareAt}
-use Rattle.model.specs.Partners.{worthAt, HoldsWorths}
-use Rattle.model.specs.Window.{Small}
-use Rattle.model.proofs.Window.{square-small}
+use Rattle.invariants.specs.Partners.{worthAt, HoldsWorths}
+use Rattle.invariants.specs.Window.{Small}
+use Rattle.invariants.proofs.Window.{square-small}
 
 -- one more entry
 pub worths-next : (r : ℕ) (c : List ℤ) (downs rights : List ℕ) (k : ℕ) (worths : List ℤ) {z : ℤ}
@@ -27,7 +27,7 @@ worths-next r c downs rights k worths {z} f h e =
     go j (no q) l = getD-set-other worths k j z (pos 0) q ∙ f .at j (omega arith)
 
 -- each is small
-pub worth-small : (r : ℕ) (c : List ℤ) (down right : ℕ) → Small 1048576 c → natAbs (worthAt r c down right) ≤ 534773760
+pub worth-small : (r : ℕ) (c : List ℤ) (down right : ℕ) → Small mostKernel c → natAbs (worthAt r c down right) ≤ 534773760
 worth-small r c down right small =
     natAbs-mul-le (pos 255) (top -ℤ away) {A = 255} {B = 2097152} (lit≤ tt)
     (apart top away (square-small (2 * r) c (pos 0) (pos 0) small) (square-small (2 * r) c _ _ small))

@@ -5,8 +5,9 @@ ghost use Prim.Native.Nat.{suc, _+_, _*_, _≤_, _<_};
 ghost use lib.ListN.{length};
 ghost use Rattle.model.specs.Basic.{pick};
 ghost use Rattle.model.specs.Error.{cellAt};
-ghost use Rattle.model.specs.Partners.{HoldsWorths, biased, lands, partner};
-ghost use Rattle.model.specs.Window.{Small};
+ghost use Rattle.model.specs.Partners.{lands, partner};
+ghost use Rattle.invariants.specs.Partners.{HoldsWorths, biased};
+ghost use Rattle.invariants.specs.Window.{Small};
 use search_change::between;
 use search_change::peak;
 
@@ -52,7 +53,7 @@ pub fn weigh_offsets(
     count: usize,
     worths: &mut [i32],
 )
-    requires { ⌜ (radius ≤ 3) × ((4 * radius + 1) * (4 * radius + 1) ≤ length (now c)) × Small 1048576 (now c) ⌝ }
+    requires { ⌜ (radius ≤ 3) × ((4 * radius + 1) * (4 * radius + 1) ≤ length (now c)) × Small mostKernel (now c) ⌝ }
     requires { ⌜ (count ≤ length (now downs)) × (count ≤ length (now rights)) × (count ≤ length (now worths)) ⌝ }
     ensures { λ _. ⌜ HoldsWorths radius (now (c .entry)) (now (downs .entry)) (now (rights .entry)) count
         (now (worths .exit)) ⌝ }

@@ -14,8 +14,8 @@ use lib.ListN.{length, getD, set, length-set}
 use lib.Seq.{getD-set-same, getD-set-other}
 use Rattle.model.specs.Basic.{pick}
 use Rattle.model.specs.Error.{cellAt}
-use Rattle.model.specs.Partners.{worthAt}
-use Rattle.model.specs.Window.{Small}
+use Rattle.invariants.specs.Partners.{worthAt}
+use Rattle.invariants.specs.Window.{Small}
 use Rattle.search_partners.proofs.Worths.{worth-small}
 use Rattle.search_runs.specs.Run.{Fails}
 use Rattle.search_prune.specs.Grid.{worthIn, HoldsGrid, RunClear, RowsClear}
@@ -32,7 +32,7 @@ module _ (radius : ℕ) (c : List ℤ) (reach side : ℕ) where
       go q (no p) l = getD-set-other grid k q z (pos 0) p ∙ f .at q (omega arith)
 
   -- each is small
-  pub worth-in-small : (q : ℕ) → Small 1048576 c → natAbs (worthIn radius c reach side q) ≤ 534773760
+  pub worth-in-small : (q : ℕ) → Small mostKernel c → natAbs (worthIn radius c reach side q) ≤ 534773760
   unfolding worthIn
   worth-in-small q small = go (leb (q % side) (2 * reach))
     where

@@ -8,8 +8,8 @@ use lib.IntN.{ℤ, pos}
 use lib.ListN.{length, getD}
 use Rattle.model.specs.Basic.{pick}
 use Rattle.model.specs.Error.{cellAt}
-use Rattle.model.specs.Partners.{worthAt}
-use Rattle.model.specs.Window.{Small}
+use Rattle.invariants.specs.Partners.{worthAt}
+use Rattle.invariants.specs.Window.{Small}
 use Rattle.search_runs.specs.Run.{Fails}
 
 module _ (radius : ℕ) (c : List ℤ) (reach side : ℕ) where
@@ -30,7 +30,7 @@ module _ (radius : ℕ) (c : List ℤ) (reach side : ℕ) where
 pub record GridFits (radius : ℕ) (c : List ℤ) (reach side : ℕ) (grid : List ℤ) : Type 0 where
   pub near : reach ≤ 6
   pub wide : (2 * reach + 1 ≤ side) × (side ≤ 16)
-  pub small : Small 1048576 c
+  pub small : Small mostKernel c
   pub holds : HoldsGrid radius c reach side ((2 * reach + 1) * side) grid
 
 -- the trial of m with each of the n cells from `from` on fails, the worths standing from `at` on

@@ -6,7 +6,8 @@ ghost use Prim.Native.Nat.{ℕ, _+_, _*_, _<_, _≤_};
 ghost use lib.IntN.{pos, natAbs};
 ghost use lib.ListN.{length, getD};
 ghost use Rattle.model.specs.Basic.{squareAt};
-ghost use Rattle.model.specs.Window.{Small, mostFiltered};
+ghost use Rattle.invariants.specs.Window.{Small};
+ghost use Rattle.model.specs.Error.{mostFiltered};
 ghost use Rattle.search_prune.specs.Grid.{worthIn, GridFits, RunClear, RowsClear};
 use filter_window::high;
 use filter_window::low;
@@ -26,7 +27,7 @@ pub fn side_of(reach: usize) -> usize
 
 // what the offset of entry q is worth, or past the reach a number that no difference outweighs
 fn worth_at(radius: usize, c: &[i32], reach: usize, side: usize, top: i32, q: usize) -> i32
-    requires { ⌜ (radius ≤ 3) × ((4 * radius + 1) * (4 * radius + 1) ≤ length (now c)) × Small 1048576 (now c) ⌝ }
+    requires { ⌜ (radius ≤ 3) × ((4 * radius + 1) * (4 * radius + 1) ≤ length (now c)) × Small mostKernel (now c) ⌝ }
     requires { ⌜ (reach ≤ 6) × (2 * reach + 1 ≤ side) × (side ≤ 16) × (q < (2 * reach + 1) * side) ⌝ }
     requires { ⌜ top ≡ squareAt (pos 0) (2 * radius) (now c) (pos 0) (pos 0) ⌝ }
     ensures { λ r. ⌜ r ≡ worthIn radius (now (c .entry)) reach side q ⌝ }
@@ -40,7 +41,7 @@ fn worth_at(radius: usize, c: &[i32], reach: usize, side: usize, top: i32, q: us
 
 // what the offsets within reach are worth, in rows
 pub fn lay_worths(radius: usize, c: &[i32], reach: usize, side: usize, grid: &mut [i32])
-    requires { ⌜ (radius ≤ 3) × ((4 * radius + 1) * (4 * radius + 1) ≤ length (now c)) × Small 1048576 (now c) ⌝ }
+    requires { ⌜ (radius ≤ 3) × ((4 * radius + 1) * (4 * radius + 1) ≤ length (now c)) × Small mostKernel (now c) ⌝ }
     requires { ⌜ (reach ≤ 6) × (2 * reach + 1 ≤ side) × (side ≤ 16) × ((2 * reach + 1) * side ≤ length (now grid)) ⌝ }
     ensures { λ _. ⌜ GridFits radius (now (c .entry)) reach side (now (grid .exit)) ⌝ }
 {

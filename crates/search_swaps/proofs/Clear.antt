@@ -14,9 +14,10 @@ use Rattle.algebra.proofs.Grid.{cell<, cell-row, cell-column}
 use Rattle.algebra.proofs.Order.{read≡}
 use Rattle.algebra.proofs.Solver.{reify}
 use Rattle.model.specs.Error.{Target, targetOf, cellAt, filteredErrors}
-use Rattle.model.specs.Partners.{biased, lands, worthAt, HoldsOffsets, HoldsWorths, Within}
+use Rattle.model.specs.Partners.{lands, Within}
+use Rattle.invariants.specs.Partners.{biased, worthAt, HoldsOffsets, HoldsWorths}
 use Rattle.model.specs.Refusal.{HalftoneFits}
-use Rattle.model.specs.Window.{HoldsKernel}
+use Rattle.invariants.specs.Window.{HoldsKernel}
 use Rattle.model.proofs.Partners.{entry-within}
 use Rattle.search_prune.specs.Grid.{worthIn, GridFits, RowsClear}
 use Rattle.search_runs.specs.Run.{Fails, CellsClear}

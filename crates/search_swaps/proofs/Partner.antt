@@ -18,10 +18,11 @@ use Rattle.algebra.proofs.Solver.{reify}
 use Rattle.model.specs.Basic.{pick, squareAt}
 use Rattle.model.specs.Change.{sign, swapSum, swap, lowers}
 use Rattle.model.specs.Error.{Target, targetOf, cellAt, filteredErrors}
-use Rattle.model.specs.Partners.{Offset, biased, inside, lands, partner, worthAt}
+use Rattle.model.specs.Partners.{Offset, inside, lands, partner}
+use Rattle.invariants.specs.Partners.{biased, worthAt}
 use Rattle.model.specs.Refusal.{HalftoneFits}
 use Rattle.model.specs.Scan.{suits}
-use Rattle.model.specs.Window.{HoldsKernel}
+use Rattle.invariants.specs.Window.{HoldsKernel}
 use Rattle.model.proofs.Partners.{lands-on}
 use Rattle.model.proofs.State.{below}
 use Rattle.search_swaps.specs.Trials.{takes}

@@ -15,9 +15,11 @@ use lib.ListN.{length, getD}
 use Rattle.model.specs.declared.Progress.{Progress}
 use Rattle.model.specs.Change.{swap, lowers}
 use Rattle.model.specs.Error.{Target}
-use Rattle.model.specs.Partners.{Offset, offsets, biased, partner, HoldsOffsets}
-use Rattle.model.specs.Scan.{Sweep, suits, swaps, swapsAfter, sweepOf, visit}
-use Rattle.model.proofs.Loop.{left-none, pass-unsuited, pass-declined, taken}
+use Rattle.model.specs.Partners.{Offset, offsets, partner}
+use Rattle.invariants.specs.Partners.{biased, HoldsOffsets}
+use Rattle.model.specs.Scan.{Sweep, suits, swaps}
+use Rattle.invariants.specs.Trials.{swapsAfter, sweepOf, visit}
+use Rattle.invariants.proofs.Loop.{left-none, pass-unsuited, pass-declined, taken}
 use Rattle.model.proofs.Scan.{more}
 use Rattle.search_swaps.specs.Trials.{takes, Failed}
 

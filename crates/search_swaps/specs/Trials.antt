@@ -6,7 +6,8 @@ use Prim.Native.Nat.{ℕ, _<_}
 use lib.ListN.{getD}
 use Rattle.model.specs.Change.{swap, lowers}
 use Rattle.model.specs.Error.{Target}
-use Rattle.model.specs.Partners.{Offset, offsets, biased, partner}
+use Rattle.model.specs.Partners.{Offset, offsets, partner}
+use Rattle.invariants.specs.Partners.{biased}
 use Rattle.model.specs.Scan.{suits}
 
 module _ (t : Target) where

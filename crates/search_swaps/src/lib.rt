@@ -5,12 +5,13 @@ ghost use mathlib.Core.Path.{_≡_};
 ghost use Prim.Native.Nat.{ℕ, _+_, _^_, _≤_, _<_};
 ghost use lib.ListN.{length, getD};
 ghost use Rattle.model.specs.Error.{targetFor, cellAt, filteredErrors};
-ghost use Rattle.model.specs.Window.{HoldsKernel};
+ghost use Rattle.invariants.specs.Window.{HoldsKernel};
 ghost use Rattle.model.specs.Refusal.{HalftoneFits};
 ghost use Rattle.model.specs.State.{LaterFits};
 ghost use Rattle.model.specs.Reference.{reference};
-ghost use Rattle.model.specs.Partners.{biased, worthAt, HoldsOffsets, HoldsWorths};
-ghost use Rattle.model.specs.Scan.{swaps, swapsAfter, visit, sweep, progressOf};
+ghost use Rattle.invariants.specs.Partners.{biased, worthAt, HoldsOffsets, HoldsWorths};
+ghost use Rattle.model.specs.Scan.{swaps, sweep, progressOf};
+ghost use Rattle.invariants.specs.Trials.{swapsAfter, visit};
 ghost use Rattle.search_prune.specs.Grid.{GridFits};
 ghost use Rattle.search_swaps.specs.Trials.{takes, Failed};
 use model::Measures;
@@ -27,10 +28,10 @@ use search_prune::lay_worths;
 use search_prune::may_lower;
 use search_prune::side_of;
 use search_runs::swaps_clear;
-use search_toggles::least;
 use search_toggles::run_end;
 use search_trial::make_swap;
 use search_trial::weigh_swap;
+use slices::least;
 
 // One trial of a swap scan: whether the partner at that offset, each coordinate with 6 added, suits and the swap with
 // it lowers the squared error; `worth` is 255 × (P - c) of the offset.

@@ -17,7 +17,8 @@ use Rattle.model.specs.declared.Progress.{Progress}
 use Rattle.model.specs.Error.{Target, targetFor, cells, cellAt, filteredErrors}
 use Rattle.model.specs.Reference.{Reference, reference, statsOf}
 use Rattle.model.specs.State.{LaterFits}
-use Rattle.model.specs.Scan.{Rule, Sweep, sweepOf, tryEach, visit, sweepTo, sweep, progressOf}
+use Rattle.model.specs.Scan.{Rule, Sweep, tryEach, sweepTo, sweep, progressOf}
+use Rattle.invariants.specs.Trials.{sweepOf, visit}
 use Rattle.model.proofs.Attempts.{Sound, entry-stats}
 use Rattle.model.proofs.Scan.{Lawful, sweep-later, sweep-counts}
 use Rattle.search_toggles.proofs.Visit.{visit-none}

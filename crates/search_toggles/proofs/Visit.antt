@@ -14,7 +14,8 @@ use Rattle.model.specs.Basic.{pick}
 use Rattle.model.specs.Error.{Target, targetFor, filteredErrors}
 use Rattle.model.specs.Reference.{reference, accept, statsOf}
 use Rattle.model.specs.State.{LaterFits}
-use Rattle.model.specs.Scan.{toggles, Sweep, sweepOf, tryEach, visit, progressOf}
+use Rattle.model.specs.Scan.{toggles, Sweep, tryEach, progressOf}
+use Rattle.invariants.specs.Trials.{sweepOf, visit}
 use Rattle.model.specs.Change.{Move, toggle, lowers}
 use Rattle.model.proofs.Attempts.{entry-stats}
 use Rattle.model.proofs.Scan.{more, try-none, try-step}

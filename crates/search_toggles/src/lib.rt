@@ -5,11 +5,12 @@ ghost use mathlib.Core.Path.{_≡_};
 ghost use Prim.Native.Nat.{ℕ, _+_, _^_, _≤_, _<_, min};
 ghost use lib.ListN.{length};
 ghost use Rattle.model.specs.Error.{targetFor, cellAt, filteredErrors};
-ghost use Rattle.model.specs.Window.{HoldsKernel};
+ghost use Rattle.invariants.specs.Window.{HoldsKernel};
 ghost use Rattle.model.specs.Refusal.{HalftoneFits};
 ghost use Rattle.model.specs.State.{LaterFits};
 ghost use Rattle.model.specs.Reference.{reference};
-ghost use Rattle.model.specs.Scan.{toggles, visit, sweep, progressOf};
+ghost use Rattle.model.specs.Scan.{toggles, sweep, progressOf};
+ghost use Rattle.invariants.specs.Trials.{visit};
 ghost use Rattle.model.specs.Change.{toggle, lowers};
 use model::Measures;
 use model::Progress;
@@ -22,12 +23,7 @@ use search_partners::next;
 use search_runs::any_toggles;
 use search_trial::make_toggle;
 use search_trial::weigh_toggle;
-
-pub fn least(a: usize, b: usize) -> usize
-    ensures { λ r. ⌜ r ≡ min a b ⌝ }
-{
-    if a < b { a } else { b }
-}
+use slices::least;
 
 // a toggle scan at one cell
 fn toggle_cell(

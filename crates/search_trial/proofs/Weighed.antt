@@ -17,13 +17,14 @@ use Rattle.model.specs.declared.Stats.{Stats}
 use Rattle.model.specs.Basic.{AtMost, squareAt}
 use Rattle.model.specs.Psf.{peak}
 use Rattle.model.specs.Error.{Target, targetOf, cellAt, mostSquared, cells, kernel, filteredError, filteredErrors}
-use Rattle.model.specs.Window.{addWindow, Small, HoldsKernel, mostFiltered}
+use Rattle.invariants.specs.Window.{addWindow, Small, HoldsKernel}
+use Rattle.model.specs.Error.{mostFiltered}
 use Rattle.model.specs.Refusal.{HalftoneFits}
 use Rattle.model.specs.State.{LaterFits}
 use Rattle.model.specs.Change.{sign, flipped, toggleSum, swapSum, made, toggle, swap, change}
 use Rattle.model.proofs.Basic.{getD-tabulate}
 use Rattle.model.proofs.Error.{filtered-long}
-use Rattle.model.proofs.Window.{square-small}
+use Rattle.invariants.proofs.Window.{square-small}
 use Rattle.model.proofs.Halftone.{filtered-small, squared-least, squared-most}
 use Rattle.model.proofs.Turn.{turns}
 use Rattle.model.proofs.Change.{toggle-change, swap-change, flip-table}
@@ -66,7 +67,7 @@ module _ (w h r : ℕ) (psf gray dots : List ℕ) (n : ℕ) (f : HalftoneFits w 
       -- what `flip` asks for
       pub flip-ready : {table : List ℤ} → table ≡ filteredErrors t dots → AtMost 255 gray
           → ((row < h) × (col < w) × (w ≤ 256) × (h ≤ 256) × (r ≤ 3))
-          × ((((4 * r + 1) * (4 * r + 1) ≤ length c) × Small 1048576 c)
+          × ((((4 * r + 1) * (4 * r + 1) ≤ length c) × Small mostKernel c)
           × (((length dots ≡ h * w) × (length table ≡ h * w))
           × (AtMost 1 dots × Small mostFiltered table)))
       flip-ready e bytes = (

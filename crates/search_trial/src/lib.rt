@@ -4,7 +4,7 @@ ghost use mathlib.Core.Path.{_≡_};
 ghost use Prim.Native.Nat.{_*_, _^_, _≤_, _<_};
 ghost use lib.IntN.{natAbs};
 ghost use lib.ListN.{length, getD};
-ghost use Rattle.model.specs.Window.{HoldsKernel};
+ghost use Rattle.invariants.specs.Window.{HoldsKernel};
 ghost use Rattle.model.specs.Error.{targetFor, cellAt, filteredErrors};
 ghost use Rattle.model.specs.Refusal.{HalftoneFits};
 ghost use Rattle.model.specs.State.{LaterFits};

@@ -5,8 +5,8 @@ ghost use lib.ListN.{length};
 ghost use lib.Seq.{sets};
 ghost use Rattle.model.specs.Program.{refusedText, figuresText, statsText, whole};
 use model::ConvergeResult;
-use sheet_write::put_bytes;
 use sheet_write::put_field;
+use slices::put_bytes;
 use text_decimal::put_number;
 
 // a squared error as a number, 0 where it is below 0, which none is

@@ -1,5 +1,5 @@
 -- How putting goes on; and the text of a sheet with start 2 as the parts that are put.
---   bytes-next, part-next, field-next  after one byte, after a part, after a number and its end
+--   part-next, field-next      after a part, after a number and its end
 --   length-next, grid-next             after a value of a grid
 --   head-length, block-length          how long lines 1 and 2 are, and a name with its rows
 --   sheet-parts, sheet-length          the whole sheet, and how long it is
@@ -20,13 +20,6 @@ use Rattle.model.proofs.Rows.{grid-length, rows-grid}
 use Rattle.model.proofs.Tables.{sets-append}
 
 -- ---- what is left to put
--- after one byte
-pub bytes-next : (out bytes : List ℕ) (at i : ℕ) → i < length bytes
-    → sets out (at + i) (drop i bytes) ≡ sets (set out (at + i) (getD bytes i 0)) (at + (i + 1)) (drop (i + 1) bytes)
-bytes-next out bytes at i h =
-    let e : at + (i + 1) ≡ suc (at + i) = omega arith in
-    rw (drop-cons bytes i 0, e, add-one i)
-
 -- after a part, and after a number and its end
 pub part-next : (part rest out put : List ℕ) (at next : ℕ) → put ≡ sets out at part → next ≡ at + length part
     → sets out at (part ++ rest) ≡ sets put next rest

@@ -9,6 +9,7 @@ ghost use Rattle.model.specs.Sheet.{row, names, valuesOf, sheetText, InRange, S
 ghost use Rattle.model.specs.SheetCalls.{withGiven, writtenSheet};
 use model::Measures;
 use sheet_fields::end_of;
+use slices::put_bytes;
 use text_decimal::digit_count;
 use text_decimal::put_number;
 
@@ -16,20 +17,6 @@ fn wide(b: u8) -> usize
     ensures { λ r. ⌜ r ≡ b ⌝ }
 {
     b as usize
-}
-
-// these bytes
-pub fn put_bytes(out: &mut [u8], at: usize, bytes: &[u8]) -> usize
-    requires { ⌜ at + length (now bytes) ≤ length (now out) ⌝ }
-    ensures { λ r. ⌜ r ≡ at + length (now (bytes .entry)) ⌝ }
-    ensures { λ _. ⌜ now (out .exit) ≡ sets (now (out .entry)) at (now (bytes .entry)) ⌝ }
-{
-    let mut i: usize = 0;
-    while i < bytes.len() {
-        out[at + i] = bytes[i];
-        i += 1;
-    }
-    at + i
 }
 
 // a number and the byte that ends it

@@ -9,11 +9,11 @@ ghost use Rattle.model.specs.Calls.{started, startCall};
 ghost use Rattle.model.specs.Ledger.{freshStats};
 use filter_sums::filter_and_square;
 use judge_input::judge_start;
-use judge_parts::sum;
 use model::Figures;
 use model::Measures;
 use model::Started;
 use model::Stats;
+use slices::sum;
 use starts_screen::start_dots;
 
 // the table of judged dots, and a fresh ledger

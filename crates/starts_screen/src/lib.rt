@@ -5,6 +5,7 @@ ghost use lib.ListN.{length};
 ghost use Rattle.model.specs.Basic.{tabulate};
 ghost use Rattle.model.specs.Screen.{thresholds, thresholdAt, screened, ordered, startDots};
 use model::Measures;
+use slices::clear_bytes;
 
 // the thresholds, row by row
 const THRESHOLDS: [u8; 256] = *b"\
@@ -44,17 +45,6 @@ fn screen(gray: u8, threshold: u8) -> u8
     0
 }
 
-// all blank
-fn blank(dots: &mut [u8])
-    ensures { λ _. ⌜ now (dots .exit) ≡ tabulate (length (now (dots .entry))) (λ n. 0) ⌝ }
-{
-    let mut n: usize = 0;
-    while n < dots.len() {
-        dots[n] = 0;
-        n += 1;
-    }
-}
-
 // by the thresholds: cell n stands at (row, col)
 fn order(array: &[u8], width: usize, gray: &[u8], dots: &mut [u8])
     requires { ⌜ now array ≡ thresholds ⌝ }
@@ -84,7 +74,7 @@ pub fn start_dots(measures: Measures, gray: &[u8], dots: &mut [u8])
 {
     let kind = measures.start;
     match kind {
-        0 => blank(dots),
+        0 => clear_bytes(dots),
         1 => order(&THRESHOLDS, measures.width, gray, dots),
         _ => {}
     }

@@ -7,8 +7,8 @@ use mathlib.Core.List.{List, _++_, map}
 use lib.IntN.{ℤ, pos}
 use lib.ListN.{length, take, length-append, length-map}
 use lib.Seq.{take-at}
-use Rattle.model.specs.Window.{Small}
-use Rattle.model.proofs.Window.{small-bytes}
+use Rattle.invariants.specs.Window.{Small}
+use Rattle.invariants.proofs.Window.{small-bytes}
 use Rattle.model.proofs.Basic.{part-whole}
 use Rattle.filter_correlate.specs.Scatter.{mirrored}
 use Rattle.filter_correlate.proofs.Scatter.{side-small, mirrored-is}

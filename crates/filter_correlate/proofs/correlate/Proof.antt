@@ -10,9 +10,9 @@ use mir.Syntax.{w32}
 use Rattle.algebra.proofs.Grid.{row<, column<}
 use Rattle.algebra.proofs.Machine.{of-small, size-of}
 use Rattle.model.specs.Basic.{tabulate}
-use Rattle.model.proofs.Window.{scaled-by, scattered-none}
+use Rattle.invariants.proofs.Window.{scaled-by, scattered-none}
 use Rattle.model.proofs.Basic.{table-long}
-use Rattle.model.proofs.Window.{table-small}
+use Rattle.invariants.proofs.Window.{table-small}
 use Rattle.filter_correlate.specs.Scatter.{mirroredAt, mirrored}
 use Rattle.filter_correlate.proofs.Scatter.{table-next, mirrored-small, side-small}
 use Rattle.filter_correlate.proofs.correlate.Statement.{statement}

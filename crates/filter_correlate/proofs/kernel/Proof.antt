@@ -7,7 +7,7 @@ use borrow.Author.Needs.{needs}
 use lib.Dec.{lit<}
 use lib.IntN.{pos}
 use lib.ListN.{drop, replicate}
-use Rattle.model.proofs.Window.{small-rest}
+use Rattle.invariants.proofs.Window.{small-rest}
 use Rattle.model.proofs.Basic.{part-whole}
 use Rattle.filter_correlate.proofs.Scatter.{front-holds}
 use Rattle.filter_correlate.proofs.kernel.Statement.{statement}

@@ -10,9 +10,9 @@ use mir.Syntax.{w32}
 use Rattle.algebra.proofs.Grid.{rows-apart}
 use Rattle.algebra.proofs.Machine.{Holds, of-cast, size-of}
 use Rattle.model.specs.Basic.{tabulate}
-use Rattle.model.proofs.Window.{scaled-by}
+use Rattle.invariants.proofs.Window.{scaled-by}
 use Rattle.model.proofs.Basic.{table-long}
-use Rattle.model.proofs.Window.{table-small}
+use Rattle.invariants.proofs.Window.{table-small}
 use Rattle.filter_passes.specs.Passes.{spreadAt, spread}
 use Rattle.filter_passes.proofs.Passes.{block-ends, spread-none, spread-next, spread-small}
 use Rattle.filter_passes.proofs.spread.Statement.{statement}

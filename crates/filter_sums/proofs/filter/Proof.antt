@@ -12,7 +12,7 @@ use lib.Seq.{take-at}
 use mir.Facts.{fits-le, fits-lit}
 use Rattle.model.specs.Basic.{tabulate, AtMost}
 use Rattle.model.specs.Error.{errorOf}
-use Rattle.model.specs.Window.{Small}
+use Rattle.invariants.specs.Window.{Small}
 use Rattle.model.proofs.Basic.{table-long, part-whole}
 use Rattle.filter_passes.specs.Passes.{spread, gathered}
 use Rattle.filter_passes.proofs.Passes.{errors-small, spread-long, spread-all-small, gathered-is}

@@ -9,7 +9,8 @@ use mir.Syntax.{w64}
 use Rattle.algebra.proofs.Machine.{read-back}
 use Rattle.algebra.specs.Sum.{sumTo}
 use Rattle.model.specs.Error.{Target, targetOf, errorOf, filteredErrors, squaredError}
-use Rattle.model.specs.Window.{Small, mostFiltered}
+use Rattle.invariants.specs.Window.{Small}
+use Rattle.model.specs.Error.{mostFiltered}
 use Rattle.model.proofs.Error.{filtered-long, weighed-is}
 use Rattle.model.proofs.Halftone.{few-cells, filtered-small}
 use Rattle.filter_sums.proofs.filter_and_square.Statement.{statement}

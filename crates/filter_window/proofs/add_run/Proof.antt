@@ -11,7 +11,7 @@ use mir.Syntax.{w32}
 use mir.Val.{ofZ, toZ}
 use mir.Facts.{toZ-ofZ}
 use Rattle.algebra.proofs.Machine.{Holds, of-small, product-fits, product-holds, add-fits, add-holds}
-use Rattle.model.specs.Window.{mostFiltered}
+use Rattle.model.specs.Error.{mostFiltered}
 use Rattle.filter_window.specs.Run.{Ran}
 use Rattle.filter_window.proofs.Run.{run-start, run-next}
 use Rattle.filter_window.proofs.add_run.Statement.{statement}

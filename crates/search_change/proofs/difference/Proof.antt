@@ -8,7 +8,7 @@ use mir.Val.{ofZ}
 use borrow.Author.Needs.{needs}
 use Rattle.algebra.proofs.Machine.{Holds, of-small, size-of, sub-fits, sub-holds}
 use Rattle.model.specs.Change.{sign}
-use Rattle.model.specs.Window.{mostFiltered}
+use Rattle.model.specs.Error.{mostFiltered}
 use Rattle.search_change.proofs.Signs.{signed-holds}
 use Rattle.search_change.proofs.difference.Statement.{statement}
 use Rattle.search_change.proofs.difference.Tie as tie

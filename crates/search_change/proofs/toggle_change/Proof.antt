@@ -12,7 +12,7 @@ use Rattle.algebra.proofs.Ring.{*ℤ-assoc}
 use Rattle.algebra.proofs.Machine.{Holds, literal, of-small, named, size-of, cast-fits, cast-holds}
 use Rattle.algebra.proofs.Machine.{add-fits, add-holds, mul-fits, mul-holds}
 use Rattle.model.specs.Change.{sign, toggleSum}
-use Rattle.model.specs.Window.{mostFiltered}
+use Rattle.model.specs.Error.{mostFiltered}
 use Rattle.search_change.proofs.Signs.{signed-holds}
 use Rattle.search_change.proofs.toggle_change.Statement.{statement}
 use Rattle.search_change.proofs.toggle_change.Tie as tie

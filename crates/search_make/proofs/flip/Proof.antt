@@ -12,7 +12,7 @@ use Rattle.algebra.proofs.Grid.{cell<}
 use Rattle.algebra.proofs.Machine.{Holds, literal, named, size-of, factors-fit}
 use Rattle.model.specs.Change.{sign}
 use Rattle.model.proofs.Psf.{side}
-use Rattle.model.proofs.Window.{scaled-by}
+use Rattle.invariants.proofs.Window.{scaled-by}
 use Rattle.filter_window.proofs.Rows.{index-fits}
 use Rattle.search_change.proofs.Signs.{signed-holds}
 use Rattle.search_make.proofs.flip.Statement.{statement}

@@ -11,8 +11,8 @@ use mir.Val.{ofZ}
 use borrow.Author.Needs.{needs}
 use Rattle.algebra.proofs.Machine.{Holds, named, literal, of-small, sub-fits, sub-holds, mul-fits, mul-holds}
 use Rattle.model.specs.Basic.{squareAt}
-use Rattle.model.specs.Partners.{HoldsWorths}
-use Rattle.model.proofs.Window.{square-small}
+use Rattle.invariants.specs.Partners.{HoldsWorths}
+use Rattle.invariants.proofs.Window.{square-small}
 use Rattle.search_partners.proofs.Worths.{worths-next}
 use Rattle.search_partners.proofs.weigh_offsets.Statement.{statement}
 use Rattle.search_partners.proofs.weigh_offsets.Tie as tie

@@ -8,7 +8,7 @@ use lib.IntN.{ℤ, natAbs}
 use lib.ListN.{length, length-set}
 use mir.Syntax.{w32}
 use Rattle.algebra.proofs.Machine.{of-small, factors-fit}
-use Rattle.model.proofs.Window.{square-small}
+use Rattle.invariants.proofs.Window.{square-small}
 use Rattle.search_prune.specs.Grid.{HoldsGrid}
 use Rattle.search_prune.proofs.Grid.{grid-next, worth-in-small}
 use Rattle.search_prune.proofs.lay_worths.Statement.{statement}

@@ -14,7 +14,7 @@ use Rattle.algebra.proofs.Machine.{Holds, named, literal, of-small, sub-fits, s
 use Rattle.algebra.proofs.Order.{show≡}
 use Rattle.algebra.proofs.Solver.{reify}
 use Rattle.model.specs.Basic.{squareAt}
-use Rattle.model.proofs.Window.{square-small}
+use Rattle.invariants.proofs.Window.{square-small}
 use Rattle.search_prune.specs.Grid.{worthIn}
 use Rattle.search_prune.proofs.worth_at.Statement.{statement}
 use Rattle.search_prune.proofs.worth_at.Tie as tie

@@ -13,7 +13,7 @@ use mir.Val.{toZ, ofZ}
 use Rattle.algebra.proofs.Ring.{*ℤ-assoc}
 use Rattle.algebra.proofs.Machine.{Holds, literal, of-small, named, size-of, add-fits, add-holds, mul-fits, mul-holds}
 use Rattle.model.specs.Change.{sign, toggleSum}
-use Rattle.model.specs.Window.{mostFiltered}
+use Rattle.model.specs.Error.{mostFiltered}
 use Rattle.search_change.proofs.Signs.{signed-holds, multiple-sign}
 use Rattle.search_runs.specs.Run.{TogglesClear}
 use Rattle.search_runs.proofs.Run.{either, toggles-next}

@@ -14,9 +14,10 @@ use Rattle.algebra.proofs.Grid.{cell<}
 use Rattle.algebra.proofs.Machine.{Holds, of-small, size-of, factors-fit}
 use Rattle.model.specs.Basic.{AtMost}
 use Rattle.model.specs.Error.{cellAt}
-use Rattle.model.specs.Partners.{Offset, biased, lands, partner}
+use Rattle.model.specs.Partners.{Offset, lands, partner}
+use Rattle.invariants.specs.Partners.{biased}
 use Rattle.model.specs.Refusal.{HalftoneFits}
-use Rattle.model.specs.Window.{HoldsKernel}
+use Rattle.invariants.specs.Window.{HoldsKernel}
 use Rattle.search_partners.proofs.Worths.{worth-small}
 use Rattle.search_trial.proofs.Weighed.{table-small}
 use Rattle.filter_window.proofs.Rows.{index-fits}

@@ -15,8 +15,9 @@ use Rattle.algebra.proofs.Grid.{cell<, rows-apart}
 use Rattle.model.specs.Error.{Target, targetFor, cellAt, filteredErrors}
 use Rattle.model.specs.Reference.{reference}
 use Rattle.model.specs.State.{LaterFits}
-use Rattle.model.specs.Scan.{Sweep, swaps, swapsAfter, visit, progressOf}
-use Rattle.model.specs.Partners.{biased, worthAt}
+use Rattle.model.specs.Scan.{Sweep, swaps, progressOf}
+use Rattle.invariants.specs.Trials.{swapsAfter, visit}
+use Rattle.invariants.specs.Partners.{biased, worthAt}
 use Rattle.model.proofs.Scan.{swaps-lawful}
 use Rattle.model.proofs.Attempts.{Sound, entry-sound}
 use Rattle.search_partners.proofs.Worths.{worth-small}

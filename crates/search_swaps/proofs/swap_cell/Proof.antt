@@ -10,13 +10,15 @@ use lib.ListN.{getD}
 use mir.Syntax.{w64}
 use Rattle.algebra.proofs.Machine.{read-back}
 use Rattle.model.specs.Error.{Target, targetFor, cellAt}
-use Rattle.model.specs.Partners.{HoldsOffsets, biased, lands}
-use Rattle.model.specs.Scan.{suits, sweepOf}
+use Rattle.model.specs.Partners.{lands}
+use Rattle.invariants.specs.Partners.{HoldsOffsets, biased}
+use Rattle.model.specs.Scan.{suits}
+use Rattle.invariants.specs.Trials.{sweepOf}
 use Rattle.model.specs.State.{LaterFits}
 use Rattle.search_swaps.specs.Trials.{takes}
 use Rattle.search_swaps.proofs.Trials.{swap-taken}
 use Rattle.search_swaps.proofs.Partner.{landed, stands, suits-lands, suits-unlike}
-use Rattle.model.proofs.Loop.{left-none}
+use Rattle.invariants.proofs.Loop.{left-none}
 use Rattle.search_toggles.proofs.Visit.{visit-none, visit-one}
 use Rattle.search_swaps.proofs.swap_cell.Statement.{statement}
 use Rattle.search_swaps.proofs.swap_cell.Tie as tie

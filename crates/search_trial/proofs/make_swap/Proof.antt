@@ -15,7 +15,7 @@ use Rattle.model.specs.Error.{Target, targetFor, cellAt, filteredErrors}
 use Rattle.model.specs.Reference.{accept}
 use Rattle.model.specs.Refusal.{HalftoneFits}
 use Rattle.model.specs.State.{LaterFits}
-use Rattle.model.specs.Window.{HoldsKernel}
+use Rattle.invariants.specs.Window.{HoldsKernel}
 use Rattle.model.specs.Change.{flipped, swap}
 use Rattle.model.proofs.Attempts.{counted-is}
 use Rattle.model.proofs.Turn.{swap-made}

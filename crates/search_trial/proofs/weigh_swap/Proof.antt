@@ -14,7 +14,7 @@ use Rattle.algebra.proofs.Machine.{read-back, factors-fit}
 use Rattle.model.specs.Basic.{AtMost, squareAt}
 use Rattle.model.specs.Error.{cellAt}
 use Rattle.model.specs.Refusal.{HalftoneFits}
-use Rattle.model.specs.Window.{HoldsKernel}
+use Rattle.invariants.specs.Window.{HoldsKernel}
 use Rattle.model.specs.Change.{sign, swapSum}
 use Rattle.filter_window.proofs.Rows.{index-fits}
 use Rattle.search_trial.proofs.Weighed.{table-small, at-small, swap-is}

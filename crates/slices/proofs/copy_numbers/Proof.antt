@@ -1,4 +1,4 @@
--- `filed_rest::copy_table` meets its contract: the entries passed are copied.
+-- `slices::copy_numbers` meets its contract: the numbers passed are copied.
 use mathlib.Core.Path.{refl, sym, _∙_}
 use Prim.Native.Nat.{_≤_, _-_}
 use native.Mathlib.Omega.{arith}
@@ -7,14 +7,14 @@ use lib.ListN.{length, getD}
 use mir.Syntax.{w32}
 use Rattle.algebra.proofs.Machine.{read-back}
 use Rattle.model.proofs.Basic.{Filling, fill-none, fill-next, fill-all, tabulate-by}
-use Rattle.filed_rest.proofs.copy_table.Statement.{statement}
-use Rattle.filed_rest.proofs.copy_table.Tie as tie
+use Rattle.slices.proofs.copy_numbers.Statement.{statement}
+use Rattle.slices.proofs.copy_numbers.Tie as tie
 
 abbrev Inv-loop : tie.InvT-loop
-Inv-loop table out₀ i₀ out i = (i ≤ length table) × Filling (pos 0) (λ k. getD table k (pos 0)) (length table) i out
+Inv-loop numbers out₀ i₀ out i = (i ≤ length numbers) × Filling (pos 0) (λ k. getD numbers k (pos 0)) (length numbers) i out
 
 abbrev μ-loop : tie.MeasureT-loop
-μ-loop table out₀ i₀ out i = length table - i
+μ-loop numbers out₀ i₀ out i = length numbers - i
 
 loop-holds : tie.Need-loop-holds Inv-loop μ-loop
 loop-holds c = (omega arith, fill-none (c .pre))
@@ -47,10 +47,10 @@ same-length c = omega (arith, c .before .loop .inv .1 .long)
 returns : tie.Need-returns Inv-loop μ-loop
 returns c =
     fill-all (c .before .loop .inv .1) (omega arith)
-    ∙ sym (tabulate-by (pos 0) _ _ (c .before .before .args .table .now) refl (λ i h. refl))
+    ∙ sym (tabulate-by (pos 0) _ _ (c .before .before .args .numbers .now) refl (λ i h. refl))
 
-pub copy-table-spec : {M : Type 1} → statement M
-copy-table-spec =
+pub copy-numbers-spec : {M : Type 1} → statement M
+copy-numbers-spec =
     tie.close
     (tie.spec
     Inv-loop

@@ -1,23 +1,23 @@
--- `starts_screen::blank` meets its contract: the cells passed are blank.
+-- `slices::clear_bytes` meets its contract: the bytes passed are 0.
 use Prim.Native.Nat.{_≤_, _-_}
 use native.Mathlib.Omega.{arith}
 use mathlib.Core.Path.{refl}
 use lib.ListN.{length}
 use Rattle.model.proofs.Basic.{Filling, fill-none, fill-next, fill-all}
-use Rattle.starts_screen.proofs.blank.Statement.{statement}
-use Rattle.starts_screen.proofs.blank.Tie as tie
+use Rattle.slices.proofs.clear_bytes.Statement.{statement}
+use Rattle.slices.proofs.clear_bytes.Tie as tie
 
 abbrev Inv-loop : tie.InvT-loop
-Inv-loop dots₀ n₀ dots n = (n ≤ length dots₀) × Filling 0 (λ k. 0) (length dots₀) n dots
+Inv-loop out₀ n₀ out n = (n ≤ length out₀) × Filling 0 (λ k. 0) (length out₀) n out
 
 abbrev μ-loop : tie.MeasureT-loop
-μ-loop dots₀ n₀ dots n = length dots₀ - n
+μ-loop out₀ n₀ out n = length out₀ - n
 
 loop-holds : tie.Need-loop-holds Inv-loop μ-loop
 loop-holds c = (omega arith, fill-none refl)
 
-slice-write-dots : tie.Need-slice-write-dots Inv-loop μ-loop
-slice-write-dots c = omega arith
+slice-write-out : tie.Need-slice-write-out Inv-loop μ-loop
+slice-write-out c = omega arith
 
 add-n : tie.Need-add-n Inv-loop μ-loop
 add-n c = omega arith
@@ -34,14 +34,14 @@ same-length c = c .before .loop .inv .1 .long
 returns : tie.Need-returns Inv-loop μ-loop
 returns c = fill-all (c .before .loop .inv .1) (omega arith)
 
-pub blank-spec : {M : Type 1} → statement M
-blank-spec =
+pub clear-bytes-spec : {M : Type 1} → statement M
+clear-bytes-spec =
     tie.close
     (tie.spec
     Inv-loop
     μ-loop
     loop-holds
-    slice-write-dots
+    slice-write-out
     add-n
     loop-less
     loop-again

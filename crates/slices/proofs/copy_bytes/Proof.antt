@@ -1,17 +1,17 @@
--- `filed_rest::copy_dots` meets its contract: the entries passed are copied.
+-- `slices::copy_bytes` meets its contract: the bytes passed are copied.
 use mathlib.Core.Path.{refl, sym, _∙_}
 use Prim.Native.Nat.{_≤_, _-_}
 use native.Mathlib.Omega.{arith}
 use lib.ListN.{length, getD}
 use Rattle.model.proofs.Basic.{Filling, fill-none, fill-next, fill-all, tabulate-by}
-use Rattle.filed_rest.proofs.copy_dots.Statement.{statement}
-use Rattle.filed_rest.proofs.copy_dots.Tie as tie
+use Rattle.slices.proofs.copy_bytes.Statement.{statement}
+use Rattle.slices.proofs.copy_bytes.Tie as tie
 
 abbrev Inv-loop : tie.InvT-loop
-Inv-loop dots out₀ i₀ out i = (i ≤ length dots) × Filling 0 (λ k. getD dots k 0) (length dots) i out
+Inv-loop bytes out₀ i₀ out i = (i ≤ length bytes) × Filling 0 (λ k. getD bytes k 0) (length bytes) i out
 
 abbrev μ-loop : tie.MeasureT-loop
-μ-loop dots out₀ i₀ out i = length dots - i
+μ-loop bytes out₀ i₀ out i = length bytes - i
 
 loop-holds : tie.Need-loop-holds Inv-loop μ-loop
 loop-holds c = (omega arith, fill-none (c .pre))
@@ -37,10 +37,10 @@ same-length c = omega (arith, c .before .loop .inv .1 .long)
 returns : tie.Need-returns Inv-loop μ-loop
 returns c =
     fill-all (c .before .loop .inv .1) (omega arith)
-    ∙ sym (tabulate-by 0 _ _ (c .before .before .args .dots .now) refl (λ i h. refl))
+    ∙ sym (tabulate-by 0 _ _ (c .before .before .args .bytes .now) refl (λ i h. refl))
 
-pub copy-dots-spec : {M : Type 1} → statement M
-copy-dots-spec =
+pub copy-bytes-spec : {M : Type 1} → statement M
+copy-bytes-spec =
     tie.close
     (tie.spec
     Inv-loop

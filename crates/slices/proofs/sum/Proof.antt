@@ -1,12 +1,12 @@
--- `judge_input::sum` meets its contract. The loop's invariant: what is summed and the bytes from `i` on make the whole sum.
+-- `slices::sum` meets its contract. The loop's invariant: what is summed and the bytes from `i` on make the whole sum.
 use mathlib.Core.Path.{_≡_, ap}
 use Prim.Native.Nat.{_+_, _*_, _-_, _≤_}
 use native.Mathlib.Omega.{arith}
 use lib.ListN.{length, drop, drop-of-length-le}
 use Rattle.model.specs.Psf.{total}
-use Rattle.judge_parts.proofs.Tests.{total-next}
-use Rattle.judge_parts.proofs.sum.Statement.{statement}
-use Rattle.judge_parts.proofs.sum.Tie as tie
+use Rattle.slices.proofs.Bytes.{total-next}
+use Rattle.slices.proofs.sum.Statement.{statement}
+use Rattle.slices.proofs.sum.Tie as tie
 
 abbrev Inv-loop : tie.InvT-loop
 Inv-loop bytes sum₀ i₀ sum i = (i ≤ length bytes) × (sum ≤ 255 * i) × (sum + total (drop i bytes) ≡ total bytes)

@@ -1,4 +1,4 @@
--- `sheet_write::put_bytes` meets its contract. The loop's invariant: the bytes from `i` on are left to put.
+-- `slices::put_bytes` meets its contract. The loop's invariant: the bytes from `i` on are left to put.
 use mathlib.Core.Path.{_≡_, refl, sym, _∙_, ap}
 use Prim.Native.Nat.{_+_, _-_, _≤_}
 use native.Mathlib.Nat.{add-zero}
@@ -6,9 +6,9 @@ use native.Mathlib.Omega.{arith}
 use borrow.Author.Needs.{needs}
 use lib.ListN.{length, drop, length-set, drop-of-length-le}
 use lib.Seq.{sets}
-use Rattle.sheet_write.proofs.Puts.{bytes-next}
-use Rattle.sheet_write.proofs.put_bytes.Statement.{statement}
-use Rattle.sheet_write.proofs.put_bytes.Tie as tie
+use Rattle.slices.proofs.Bytes.{bytes-next}
+use Rattle.slices.proofs.put_bytes.Statement.{statement}
+use Rattle.slices.proofs.put_bytes.Tie as tie
 
 abbrev Inv-loop : tie.InvT-loop
 Inv-loop out₀ at bytes i₀ out i =

@@ -1,27 +1,27 @@
--- `filter_sums::clear` meets its contract: the entries passed are 0.
+-- `slices::clear_numbers` meets its contract: the numbers passed are 0.
 use Prim.Native.Nat.{_≤_, _-_}
 use native.Mathlib.Omega.{arith}
 use mathlib.Core.Path.{refl}
 use lib.IntN.{pos}
 use lib.ListN.{length}
 use Rattle.model.proofs.Basic.{Filling, fill-none, fill-next, fill-all}
-use Rattle.filter_window.proofs.clear.Statement.{statement}
-use Rattle.filter_window.proofs.clear.Tie as tie
+use Rattle.slices.proofs.clear_numbers.Statement.{statement}
+use Rattle.slices.proofs.clear_numbers.Tie as tie
 
 abbrev Inv-loop : tie.InvT-loop
-Inv-loop table₀ q₀ table q = (q ≤ length table₀) × Filling (pos 0) (λ k. pos 0) (length table₀) q table
+Inv-loop out₀ q₀ out q = (q ≤ length out₀) × Filling (pos 0) (λ k. pos 0) (length out₀) q out
 
 abbrev μ-loop : tie.MeasureT-loop
-μ-loop table₀ q₀ table q = length table₀ - q
+μ-loop out₀ q₀ out q = length out₀ - q
 
 loop-holds : tie.Need-loop-holds Inv-loop μ-loop
 loop-holds c = (omega arith, fill-none refl)
 
-mul-table : tie.Need-mul-table Inv-loop μ-loop
-mul-table c = omega arith
+mul-out : tie.Need-mul-out Inv-loop μ-loop
+mul-out c = omega arith
 
-slice-set-of-table : tie.Need-slice-set-of-table Inv-loop μ-loop
-slice-set-of-table c = omega arith
+slice-set-of-out : tie.Need-slice-set-of-out Inv-loop μ-loop
+slice-set-of-out c = omega arith
 
 add-q : tie.Need-add-q Inv-loop μ-loop
 add-q c = omega arith
@@ -38,15 +38,15 @@ same-length c = c .before .loop .inv .1 .long
 returns : tie.Need-returns Inv-loop μ-loop
 returns c = fill-all (c .before .loop .inv .1) (omega arith)
 
-pub clear-spec : {M : Type 1} → statement M
-clear-spec =
+pub clear-numbers-spec : {M : Type 1} → statement M
+clear-numbers-spec =
     tie.close
     (tie.spec
     Inv-loop
     μ-loop
     loop-holds
-    mul-table
-    slice-set-of-table
+    mul-out
+    slice-set-of-out
     add-q
     loop-less
     loop-again

@@ -1,0 +1,2 @@
+-- What the proofs of loops over bytes share.
+pub mod Bytes
