@@ -1,3 +1,6 @@
 -- The laws of what the code's buffers hold.
 pub mod Window
 pub mod Loop
+pub mod Plate
+pub mod Trials
+pub mod Scanning
