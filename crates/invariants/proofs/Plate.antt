@@ -3,7 +3,7 @@
 --   place-fits, on-plate              what a cell's place asks for, and that the cell is one of the plate's
 --   kernel-square, judged-small       the numbers of kernel and table are small
 --   toggle-weighs, swap-weighs        document 01's formulas over table and kernel are what a toggle and a swap add
---   stored-judged                     a byte stored with its window: a judged plate again
+--   store-window, stored-judged       a byte is stored: by a window the table follows, and it is a judged plate again
 --   countable                         a change can be counted
 --   attempt-declined, attempt-accepted  what an attempt answers and leaves, its change being weighed
 --   leaves-ends                       a call that is not refused ends as the reference does
@@ -77,7 +77,22 @@ module _ {m : Measures} {psf gray : List ℕ} {c : List ℤ} {dots : List ℕ} {
       pub on-table : cellOf (m .width) at < length table
       on-table = rw (j .plate .halftone .table-length) on-plate
 
-      -- a byte is stored there
+      -- a byte is stored there: by a window the table follows
+      pub store-window : (byte : ℕ)
+          → addWindow (m .width) (2 * m .radius) c
+          (pos 255 *ℤ (pos byte -ℤ pos (getD dots (cellOf (m .width) at) 0))) (at .row) (at .col) table
+          ≡ filteredErrors (targetFor m psf gray) (set dots (cellOf (m .width) at) byte)
+      store-window byte =
+          let t = targetFor m psf gray in
+          ap (addWindow (m .width) (2 * m .radius) c amount (at .row) (at .col)) (j .table-is)
+          ∙ ap₂ (λ y x. addWindow (m .width) (2 * m .radius) c amount y x (filteredErrors t dots))
+          (sym (cell-row (on .col-below))) (sym (cell-column (at .row) (on .col-below)))
+          ∙ sym (store-table t c (j .kernel) dots (j .plate .halftone .dots-length) (cellOf (m .width) at) byte on-plate)
+        where
+          amount : ℤ
+          amount = pos 255 *ℤ (pos byte -ℤ pos (getD dots (cellOf (m .width) at) 0))
+
+      -- and it is a judged plate again
       module _ {byte : ℕ} (low : byte ≤ 1) {dots′ : List ℕ} {table′ : List ℤ}
           (d : dots′ ≡ set dots (cellOf (m .width) at) byte)
           (e : table′ ≡ filteredErrors (targetFor m psf gray) dots′) where
