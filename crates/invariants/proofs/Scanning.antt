@@ -1,6 +1,7 @@
 -- What holds while a scan is under way, by whatever rule.
 --   visit-none, visit-one              nothing is accepted at a cell and all stays, or one change is accepted
---   toggle-declined, toggle-visit      a toggle scan at a cell, of which an attempt tells what it leaves
+--   toggle-declined, toggle-accepted   a toggle scan at a cell
+--   told-accepted, told-declined       the same by what an attempt tells of it
 --   Scanning                           the cells before this one done, what is there is the reference's
 --   scanning-start, scanning-ready     it starts from what a later call is handed, and later calls accept what is there
 --   scanning-few                       its accepted changes are few
@@ -22,12 +23,14 @@ use Rattle.model.specs.declared.Progress.{Progress}
 use Rattle.model.specs.Basic.{pick}
 use Rattle.model.specs.Error.{Target, targetFor, cells, filteredErrors}
 use Rattle.model.specs.Change.{Move, toggle, lowers}
-use Rattle.model.specs.Reference.{Reference, reference, accept, statsOf}
+use Rattle.model.specs.Calls.{result}
+use Rattle.model.specs.Reference.{Reference, reference, accept, statsOf, Tried, accepted, declined, Performed, attempt}
 use Rattle.model.specs.State.{LaterFits}
 use Rattle.model.specs.Scan.{Rule, toggles, Sweep, tryEach, sweepTo, sweep, progressOf}
-use Rattle.model.proofs.Attempts.{Sound, entry-stats, entry-sound}
+use Rattle.model.proofs.Attempts.{Sound, entry-stats, attempt-by}
+use Rattle.model.proofs.Calls.{same-result}
 use Rattle.model.proofs.Scan.{Lawful, more, try-none, try-step, sweep-later, sweep-counts}
-use Rattle.invariants.specs.Plate.{Ready, OnPlate, cellOf, Leaves, accepting}
+use Rattle.invariants.specs.Plate.{OnPlate, cellOf, Leaves, accepting, replied}
 use Rattle.invariants.specs.Trials.{sweepOf, performed, visit}
 
 -- ---- at one cell
@@ -72,6 +75,52 @@ module _ (t : Target) (dots : List ℕ) (r : Progress) (n : ℕ) where
   toggle-accepted e =
       try-step t (sweepOf dots r) (toggle dots n) []
       ∙ ap (λ b. pick b (more (sweepOf dots r) (toggle dots n)) (tryEach t (sweepOf dots r) [])) e
+
+-- what an attempt tells is what a scan leaves that attempts just that
+abbrev statsIn : Stats → Tried → Stats
+statsIn s (accepted s′ d) = s′
+statsIn s (declined d) = s
+
+abbrev IsAccepted : Tried → Type 0
+IsAccepted (accepted s d) = Unit {0}
+IsAccepted (declined d) = ⊥
+
+module _ (t : Target) (dots : List ℕ) (r : Progress) (v : Move) {s : Sweep} (dots′ : List ℕ) (table′ : List ℤ)
+    (taken : lowers t dots v ≡ true → s ≡ more (sweepOf dots r) v)
+    (passed : lowers t dots v ≡ false → s ≡ sweepOf dots r) where
+  abbrev Told : Tried → Performed Tried → Type 0
+  Told answer done = Leaves t (replied done) (result answer) dots′ table′
+
+  pub told-accepted : {s′ : Stats} {d : ℤ} → Told (accepted s′ d) (attempt t (reference dots (r .stats)) v)
+      → Leaves t (performed t s) (record { stats = s′; changes = r .changes + 1 }) dots′ table′
+  told-accepted {s′} {d} =
+      attempt-by t (reference dots (r .stats)) v
+      (λ done. Told (accepted s′ d) done
+      → Leaves t (performed t s) (record { stats = s′; changes = r .changes + 1 }) dots′ table′)
+      (λ e left.
+      visit-one t dots r v (taken e)
+      (record {
+        answer-is = ap (statsIn s′) (same-result (left .answer-is));
+        dots-are = left .dots-are;
+        table-is = left .table-is;
+      }))
+      (λ e left. absurd (subst IsAccepted (same-result (left .answer-is)) tt))
+
+  pub told-declined : r .stats ≡ statsOf t (reference dots (r .stats))
+      → {d : ℤ} → Told (declined d) (attempt t (reference dots (r .stats)) v)
+      → Leaves t (performed t s) r dots′ table′
+  unfolding progressOf
+  told-declined entry {d} =
+      attempt-by t (reference dots (r .stats)) v
+      (λ done. Told (declined d) done → Leaves t (performed t s) r dots′ table′)
+      (λ e left. absurd (subst IsAccepted (sym (same-result (left .answer-is))) tt))
+      (λ e left.
+      subst (λ (x : Sweep). Leaves t (performed t x) r dots′ table′) (sym (passed e))
+      (record {
+        answer-is = λ i. record { stats = entry i; changes = r .changes };
+        dots-are = left .dots-are;
+        table-is = left .table-is;
+      }))
 
 -- ---- under way: the cells before this one are done
 pub record Scanning (m : Measures) (psf gray : List ℕ) (rule : Rule) (p : Reference) (at : Cell)
