@@ -1,7 +1,7 @@
 -- What holds while a scan is under way, by whatever rule.
---   visit-none, visit-one              nothing is accepted at a cell and all stays, or one change is accepted
+--   visit-none                         nothing is accepted at a cell, and all stays
 --   toggle-declined, toggle-accepted   a toggle scan at a cell
---   told-accepted, told-declined       the same by what an attempt tells of it
+--   attempt-advances                   what an attempt answers advances a scan that attempts just that
 --   Scanning                           the cells before this one done, what is there is the reference's
 --   scanning-start, scanning-ready     it starts from what a later call is handed, and later calls accept what is there
 --   scanning-few                       its accepted changes are few
@@ -23,15 +23,14 @@ use Rattle.model.specs.declared.Progress.{Progress}
 use Rattle.model.specs.Basic.{pick}
 use Rattle.model.specs.Error.{Target, targetFor, cells, filteredErrors}
 use Rattle.model.specs.Change.{Move, toggle, lowers}
-use Rattle.model.specs.Calls.{result}
-use Rattle.model.specs.Reference.{Reference, reference, accept, statsOf, Tried, accepted, declined, Performed, attempt}
+use Rattle.model.specs.Calls.{Reply}
+use Rattle.model.specs.Reference.{Reference, reference, accept, statsOf, Tried, attempt}
 use Rattle.model.specs.State.{LaterFits}
 use Rattle.model.specs.Scan.{Rule, toggles, Sweep, tryEach, sweepTo, sweep, progressOf}
 use Rattle.model.proofs.Attempts.{Sound, entry-stats, attempt-by}
-use Rattle.model.proofs.Calls.{same-result}
 use Rattle.model.proofs.Scan.{Lawful, more, try-none, try-step, sweep-later, sweep-counts}
-use Rattle.invariants.specs.Plate.{OnPlate, cellOf, Leaves, accepting, replied}
-use Rattle.invariants.specs.Trials.{sweepOf, performed, visit}
+use Rattle.invariants.specs.Plate.{OnPlate, cellOf, Leaves, replied}
+use Rattle.invariants.specs.Trials.{advanced, sweepOf, performed, visit}
 
 -- ---- at one cell
 -- nothing is accepted
@@ -45,20 +44,6 @@ visit-none {m} {psf} {gray} {dots} {table} {r} f e =
       answer-is = λ i. record { stats = entry-stats m psf gray dots table (r .stats) f i; changes = r .changes };
       dots-are = refl;
       table-is = f .state .table-is;
-    })
-
--- that change is accepted
-pub visit-one : (t : Target) (dots : List ℕ) (r : Progress) (v : Move) {s : Sweep} → s ≡ more (sweepOf dots r) v
-    → {stats′ : Stats} {dots′ : List ℕ} {table′ : List ℤ}
-    → Leaves t (accepting t (reference dots (r .stats)) v) stats′ dots′ table′
-    → Leaves t (performed t s) (record { stats = stats′; changes = r .changes + 1 }) dots′ table′
-unfolding progressOf
-visit-one t dots r v e left =
-    rw e
-    (record {
-      answer-is = λ i. record { stats = left .answer-is i; changes = add-one (r .changes) i };
-      dots-are = left .dots-are;
-      table-is = left .table-is;
     })
 
 -- a toggle scan
@@ -76,48 +61,30 @@ module _ (t : Target) (dots : List ℕ) (r : Progress) (n : ℕ) where
       try-step t (sweepOf dots r) (toggle dots n) []
       ∙ ap (λ b. pick b (more (sweepOf dots r) (toggle dots n)) (tryEach t (sweepOf dots r) [])) e
 
--- what an attempt tells is what a scan leaves that attempts just that
-abbrev statsIn : Stats → Tried → Stats
-statsIn s (accepted s′ d) = s′
-statsIn s (declined d) = s
-
-abbrev IsAccepted : Tried → Type 0
-IsAccepted (accepted s d) = Unit {0}
-IsAccepted (declined d) = ⊥
-
+-- what an attempt answers advances a scan that attempts just that
 module _ (t : Target) (dots : List ℕ) (r : Progress) (v : Move) {s : Sweep} (dots′ : List ℕ) (table′ : List ℤ)
+    (entry : r .stats ≡ statsOf t (reference dots (r .stats)))
     (taken : lowers t dots v ≡ true → s ≡ more (sweepOf dots r) v)
     (passed : lowers t dots v ≡ false → s ≡ sweepOf dots r) where
-  abbrev Told : Tried → Performed Tried → Type 0
-  Told answer done = Leaves t (replied done) (result answer) dots′ table′
-
-  pub told-accepted : {s′ : Stats} {d : ℤ} → Told (accepted s′ d) (attempt t (reference dots (r .stats)) v)
-      → Leaves t (performed t s) (record { stats = s′; changes = r .changes + 1 }) dots′ table′
-  told-accepted {s′} {d} =
+  pub attempt-advances : (reply : Reply Tried) → Leaves t (replied (attempt t (reference dots (r .stats)) v)) reply dots′ table′
+      → Leaves t (performed t s) (advanced r reply) dots′ table′
+  unfolding progressOf
+  attempt-advances reply =
       attempt-by t (reference dots (r .stats)) v
-      (λ done. Told (accepted s′ d) done
-      → Leaves t (performed t s) (record { stats = s′; changes = r .changes + 1 }) dots′ table′)
+      (λ done. Leaves t (replied done) reply dots′ table′ → Leaves t (performed t s) (advanced r reply) dots′ table′)
       (λ e left.
-      visit-one t dots r v (taken e)
+      subst (λ (x : Sweep). Leaves t (performed t x) (advanced r reply) dots′ table′) (sym (taken e))
       (record {
-        answer-is = ap (statsIn s′) (same-result (left .answer-is));
+        answer-is =
+            ap (advanced r) (left .answer-is)
+            ∙ (λ i. record { stats = statsOf t (accept (reference dots (r .stats)) v); changes = add-one (r .changes) i });
         dots-are = left .dots-are;
         table-is = left .table-is;
       }))
-      (λ e left. absurd (subst IsAccepted (same-result (left .answer-is)) tt))
-
-  pub told-declined : r .stats ≡ statsOf t (reference dots (r .stats))
-      → {d : ℤ} → Told (declined d) (attempt t (reference dots (r .stats)) v)
-      → Leaves t (performed t s) r dots′ table′
-  unfolding progressOf
-  told-declined entry {d} =
-      attempt-by t (reference dots (r .stats)) v
-      (λ done. Told (declined d) done → Leaves t (performed t s) r dots′ table′)
-      (λ e left. absurd (subst IsAccepted (sym (same-result (left .answer-is))) tt))
       (λ e left.
-      subst (λ (x : Sweep). Leaves t (performed t x) r dots′ table′) (sym (passed e))
+      subst (λ (x : Sweep). Leaves t (performed t x) (advanced r reply) dots′ table′) (sym (passed e))
       (record {
-        answer-is = λ i. record { stats = entry i; changes = r .changes };
+        answer-is = ap (advanced r) (left .answer-is) ∙ (λ i. record { stats = entry i; changes = r .changes });
         dots-are = left .dots-are;
         table-is = left .table-is;
       }))

@@ -2,13 +2,13 @@
 ghost use mathlib.Core.Bool.{false};
 ghost use mathlib.Core.Path.{_≡_};
 ghost use Prim.Native.Nat.{ℕ, _+_, _^_, _≤_, _<_};
-ghost use Rattle.model.specs.Change.{toggle, lowers};
+ghost use Rattle.model.specs.Change as Change;
+ghost use Rattle.model.specs.Change.{lowers};
 ghost use Rattle.model.specs.Error.{targetFor};
 ghost use Rattle.model.specs.Reference.{reference};
 ghost use Rattle.model.specs.Scan.{toggles, sweep};
 ghost use Rattle.invariants.specs.Plate.{Judged, Ready, OnPlate, cellOf, Leaves};
 ghost use Rattle.invariants.specs.Trials.{visit, performed};
-use model::Attempt;
 use model::Cell;
 use model::Measures;
 use model::Progress;
@@ -17,6 +17,8 @@ use search_change::peak;
 use search_partners::ahead;
 use search_partners::next;
 use search_runs::any_toggles;
+use search_trial::advance;
+use search_trial::toggle;
 use slices::index;
 use slices::least;
 
@@ -37,14 +39,8 @@ fn toggle_cell(
         Leaves t (performed t (visit t (toggles t) (now (dots .entry)) progress (cellOf (measures .width) at)))
         r (now (dots .exit)) (now (table .exit))) ⌝ }
 {
-    let answer = search_trial::toggle(measures, psf, gray, c, dots, table, progress.stats, at);
-    match answer {
-        Attempt::Accepted(stats, _) => Progress {
-            stats: stats,
-            changes: progress.changes + 1,
-        },
-        _ => progress,
-    }
+    let answer = toggle(measures, psf, gray, c, dots, table, progress.stats, at);
+    advance(progress, answer)
 }
 
 // How many cells from here on can be passed over, a toggle being accepted at none: a run of up to 16 in this row, or 0
@@ -62,7 +58,7 @@ fn clear_run(
     requires { ⌜ Judged measures (now psf) (now gray) (now c) (now dots) (now table) × OnPlate measures at ⌝ }
     ensures { λ r. ⌜ (at .col + r ≤ measures .width) × ((k : ℕ) → k < r
         → lowers (targetFor measures (now (psf .entry)) (now (gray .entry))) (now (dots .entry))
-        (toggle (now (dots .entry)) (cellOf (measures .width) at + k)) ≡ false) ⌝ }
+        (Change.toggle (now (dots .entry)) (cellOf (measures .width) at + k)) ≡ false) ⌝ }
 {
     let m = index(measures.width, at);
     if m < tested {

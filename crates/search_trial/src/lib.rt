@@ -1,12 +1,16 @@
 // A change of a judged plate whose kernel is c: weighed by the table, and made where it lowers the squared error.
+ghost use mathlib.Core.Path.{_≡_};
+ghost use Prim.Native.Nat.{_^_, _<_};
 ghost use Rattle.model.specs.Error.{targetFor};
 ghost use Rattle.model.specs.Reference.{reference, attempt};
 ghost use Rattle.model.specs.Calls.{attempted};
 ghost use Rattle.invariants.specs.Plate.{Judged, Ready, OnPlate, toggleAt, swapAt, Unlike};
 ghost use Rattle.invariants.specs.Plate.{Weighs, Leaves, accepting, replied};
+ghost use Rattle.invariants.specs.Trials.{advanced};
 use model::Attempt;
 use model::Cell;
 use model::Measures;
+use model::Progress;
 use model::Stats;
 use search_change::between;
 use search_change::lowers;
@@ -155,4 +159,19 @@ pub fn swap(
         return Attempt::Accepted(swapped, delta);
     }
     Attempt::Declined(delta)
+}
+
+// what a scan has come to once an attempt has answered
+pub fn advance(progress: Progress, answer: Attempt) -> Progress
+    requires { ⌜ progress .changes < 2 ^ 63 ⌝ }
+    ensures { λ r. ⌜ r ≡ advanced progress (attempted answer) ⌝ }
+{
+    match answer {
+        Attempt::Accepted(stats, _) => Progress {
+            stats: stats,
+            changes: progress.changes + 1,
+        },
+        Attempt::Declined(_) => progress,
+        Attempt::Refused(_) => progress,
+    }
 }
