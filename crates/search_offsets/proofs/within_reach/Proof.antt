@@ -1,9 +1,9 @@
 -- `search_offsets::within_reach` meets its contract. That the table holds the codes of the offsets within 6 in their order is
 -- one computed test of the whole table: antt computes `codes` where `returns` hands on what `keep` ensures.
 use mathlib.Core.Path.{sym, subst}
-use lib.Seq.{length-take-le}
 use borrow.Author.Needs.{needs}
 use Rattle.model.specs.Partners.{offsetsOf, offsetsFrom, offsets}
+use Rattle.model.proofs.Basic.{part-whole}
 use Rattle.invariants.specs.Partners.{HoldsOffsets}
 use Rattle.search_offsets.proofs.Codes.{codes, holds}
 use Rattle.search_offsets.proofs.within_reach.Statement.{statement}
@@ -25,7 +25,7 @@ returns c =
     let k : tie.After-keep = search in
     let e = k .keep .ensures in (
       subst (HoldsOffsets (s .args .reach)) (sym (e .1)) (holds (s .args .reach) (s .pre .0)),
-      (e .0, sym (length-take-le _ _ (e .0))),
+      (e .0, part-whole _ _ (e .0)),
     )
 
 pub within-reach-spec : {M : Type 1} → statement M
