@@ -58,7 +58,7 @@ returns-4 c =
     (omega (arith, s .pre .2, c .if4 .taken))
 
 index-requires : tie.Need-index-requires
-index-requires c κs = search needs
+index-requires c κs = (omega arith, omega arith, omega arith)
 
 returns-5 : tie.Need-returns-5
 returns-5 c =
