@@ -2,5 +2,6 @@
 pub mod Window
 pub mod Loop
 pub mod Plate
+pub mod Partners
 pub mod Trials
 pub mod Scanning
