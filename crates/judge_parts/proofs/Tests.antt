@@ -16,7 +16,7 @@ use lib.Seq.{drop-cons}
 use mir.Syntax.{w64}
 use mir.Val.{Fits}
 use Rattle.algebra.proofs.Machine.{factors-fit}
-use Rattle.model.specs.Psf.{total}
+use Rattle.model.specs.Error.{mostCells}
 use Rattle.model.specs.Refusal.{Refusal, firstOf, differs, above, badSize, badRadius, badLength}
 use Rattle.model.proofs.Refusal.{numbered, none, neither, size-inside}
 
@@ -43,7 +43,7 @@ sized w h r k t e z =
 -- where 5 is not drawn, the psf is no longer than its sum takes
 pub psf-most : (r : ℕ) (psf : List ℕ) (cells : ℕ) (lengths : List ℕ) {x : ℕ} → r ≤ 3
     → x ≡ firstOf (badLength r psf cells lengths ∷ []) → x ≡ 0
-    → length psf ≤ 65536
+    → length psf ≤ mostCells
 psf-most r psf cells lengths h e z =
     let side : ℕ = 2 * r + 1 in
     let (exact, _) = none (badLength r psf cells lengths ∷ []) tt e z in
