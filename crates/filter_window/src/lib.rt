@@ -3,7 +3,6 @@ ghost use mathlib.Core.Path.{_≡_};
 ghost use Prim.Native.Nat.{ℕ, _+_, _*_, _-_, _<_, _≤_, min};
 ghost use lib.ListN.{length, getD};
 ghost use lib.IntN.{pos, natAbs};
-ghost use Rattle.model.specs.Basic.{tabulate};
 ghost use Rattle.invariants.specs.Window.{addWindow, Small, Scaled};
 ghost use Rattle.model.specs.Error.{mostFiltered};
 ghost use Rattle.filter_window.specs.Run.{Ran};
