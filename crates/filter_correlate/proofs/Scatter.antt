@@ -1,21 +1,23 @@
 -- The autocorrelation by windows of the psf, one in each turn of a loop.
 --   table-next                  the table one window further
 --   mirrored-small, side-small  the sizes of its entries on the way, and how many entries a psf has
+--   entry-row, entry-column     where an entry stands in the psf
 --   mirrored-is                 the table built so from a psf is its autocorrelation
 --   front-holds                 a list with the autocorrelation in its front holds the kernel
 use mathlib.Core.Path.{_≡_, sym, _∙_, ap, ap₂, subst}
 use mathlib.Core.List.{List, _++_, map}
-use Prim.Native.Nat.{ℕ, _+_, _*_, _≤_}
+use Prim.Native.Nat.{ℕ, _+_, _*_, _/_, _%_, _≤_, _<_}
 use native.Mathlib.Nat as NatL
 use native.Mathlib.Omega.{arith}
 use lib.IntN.{ℤ, pos, natAbs}
 use lib.ListN.{length, getD, length-map, length-append}
+use Rattle.algebra.proofs.Grid.{row<, column<}
 use Rattle.algebra.proofs.Order.{natAbs-mul-le, natAbs-below}
 use Rattle.algebra.proofs.SumOrder.{natAbs-sum}
 use Rattle.model.specs.Basic.{tabulate, squareAt}
 use Rattle.model.specs.Psf.{total, autocorrelations}
 use Rattle.model.specs.Refusal.{PsfFits}
-use Rattle.invariants.specs.Window.{addWindow, scattered, Small, HoldsKernel}
+use Rattle.invariants.specs.Window.{addWindow, scattered, Small, HoldsKernel, mostKernel}
 use Rattle.model.specs.Error.{mostFiltered}
 use Rattle.model.proofs.Basic.{tabulate-cong, square-append}
 use Rattle.model.proofs.Psf.{autocorrelation-nonneg, autocorrelation≤, autocorrelations-long, autocorrelations-at, side}
@@ -37,6 +39,14 @@ mirrored-small r p i q s h =
     (natAbs-sum i _ 65025 (λ k l. natAbs-mul-le (getD p k (pos 0)) _ (s .each k) (square-small r p _ _ s)))
     (omega arith)
 
+-- the row and the column of an entry in the square
+module _ (r i : ℕ) where
+  pub entry-row : i < (2 * r + 1) * (2 * r + 1) → i / (2 * r + 1) < 2 * r + 1
+  entry-row h = row< i (omega arith) h
+
+  pub entry-column : i % (2 * r + 1) < 2 * r + 1
+  entry-column = column< i (omega arith)
+
 pub side-small : {r : ℕ} → r ≤ 3 → (2 * r + 1) * (2 * r + 1) ≤ 49
 side-small {r} h = NatL.mul-le-mul {n₂ = 7} {m₂ = 7} (omega arith) (omega arith)
 
@@ -52,7 +62,7 @@ mirrored-is r psf e =
 kernel-small : (r : ℕ) (psf : List ℕ) → PsfFits r psf → Small mostKernel (autocorrelations r psf)
 unfolding autocorrelations
 kernel-small r psf f =
-    small-tabulate 1048576 _ _ (λ q h.
+    small-tabulate mostKernel _ _ (λ q h.
     NatL.le-trans
     (natAbs-below _ (total psf * total psf)
     (autocorrelation-nonneg r psf _ _) (autocorrelation≤ r psf (f .square) _ _))

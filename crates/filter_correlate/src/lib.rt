@@ -9,6 +9,7 @@ ghost use Rattle.model.specs.Refusal.{PsfFits};
 ghost use Rattle.invariants.specs.Window.{Small, HoldsKernel};
 ghost use Rattle.filter_correlate.specs.Scatter.{mirrored};
 use filter_window::add_window;
+use model::Cell;
 use slices::clear_numbers;
 
 // the bytes as signed numbers
@@ -38,7 +39,7 @@ fn correlate(radius: usize, p: &[i32], out: &mut [i32])
         let row = middle - i / side;
         let col = middle - i % side;
         let amount = p[i];
-        add_window(out, width, width, row, col, radius, p, amount);
+        add_window(out, width, width, Cell { row, col }, radius, p, amount);
         i += 1;
     }
 }

@@ -192,10 +192,9 @@ module _ (w h r : ℕ) (psf : List ℕ) where
     abbrev edge : ℕ → ℤ
     edge y = negℤ (pos r) +ℤ pos y
 
-    pub errors-small : {table : ℕ} → HalftoneFits w h r psf gray dots table → AtMost 255 gray → Small 255 errors
+    pub errors-small : {table : ℕ} → HalftoneFits target dots table → AtMost 255 gray → Small 255 errors
     unfolding error
-    errors-small f bytes =
-        small-tabulate 255 (h * w) (errorOf 255 gray dots) (λ n l. errors-most w h r psf gray dots f bytes n)
+    errors-small f bytes = small-tabulate 255 (h * w) (errorOf 255 gray dots) (λ n l. errors-most f bytes n)
 
     spread-is : length psf ≡ (2 * r + 1) * (2 * r + 1) → (Y X : ℕ) → Y < h + 2 * r → X < span
         → getD (spread w h r psf errors) (Y * span + X) (pos 0) ≡ perceivedError target dots (edge Y) (edge X)

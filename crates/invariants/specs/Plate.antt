@@ -1,18 +1,19 @@
 -- A judged plate in the buffers that inner functions are handed, and what they leave in them where the reference (01: the
 -- plain plate) has done the same.
-use mathlib.Core.List.{List, []}
+use mathlib.Core.List.{List}
 use mathlib.Core.Path.{_≡_}
 use Prim.Native.Nat.{ℕ, _^_, _≤_, _<_}
 use lib.IntN.{ℤ, natAbs}
-use lib.ListN.{length}
+use lib.ListN.{length, getD}
 use Rattle.model.specs.declared.Cell.{Cell}
 use Rattle.model.specs.declared.Measures.{Measures}
 use Rattle.model.specs.declared.Stats.{Stats}
 use Rattle.model.specs.Basic.{AtMost}
-use Rattle.model.specs.Error.{Target, targetFor, cellAt, filteredErrors}
+use Rattle.model.specs.Error.{Target, targetFor, cellAt, filteredErrors, mostSquared}
 use Rattle.model.specs.Refusal.{PlateFits}
 use Rattle.model.specs.State.{LaterFits}
-use Rattle.model.specs.Change.{Move, change}
+use Rattle.model.specs.Ledger.{mostCount}
+use Rattle.model.specs.Change.{Move, toggle, swap, change}
 use Rattle.model.specs.Reference.{Reference, Performed, accept, statsOf}
 use Rattle.model.specs.Calls.{Reply, result}
 use Rattle.invariants.specs.Window.{HoldsKernel}
@@ -40,11 +41,35 @@ pub record OnPlate (m : Measures) (at : Cell) : Type 0 where
 abbrev pub cellOf : (width : ℕ) → Cell → ℕ
 cellOf width at = cellAt width (at .row) (at .col)
 
+-- the changes of such cells
+module _ (m : Measures) (dots : List ℕ) where
+  abbrev pub toggleAt : Cell → Move
+  toggleAt at = toggle dots (cellOf (m .width) at)
+
+  abbrev pub swapAt : (at to : Cell) → Move
+  swapAt at to = swap dots (cellOf (m .width) at) (cellOf (m .width) to)
+
+  -- two cells whose dots differ
+  abbrev pub Unlike : (at to : Cell) → Type 0
+  Unlike at to = getD dots (cellOf (m .width) at) 0 ≡ getD dots (cellOf (m .width) to) 0 → ⊥
+
 -- ---- what is answered
--- what a change does to E, which is far from the ends of 64 bits
+-- the largest size of a change: far from the ends of 64 bits
+abbrev pub mostChange : ℕ
+mostChange = 2 ^ 50
+
+-- what a change does to E
 pub record Weighs (t : Target) (dots : List ℕ) (v : Move) (delta : ℤ) : Type 0 where
   pub delta-is : delta ≡ change t dots v
-  pub small : natAbs delta ≤ 2 ^ 50
+  pub small : natAbs delta ≤ mostChange
+
+-- a ledger in which such a change can be counted
+pub record Countable (s : Stats) (delta : ℤ) : Type 0 where
+  pub error-small : natAbs (s .error) ≤ mostSquared
+  pub change-small : natAbs delta ≤ mostChange
+  pub on-few : s .figures .on ≤ mostCount
+  pub off-few : s .figures .off ≤ mostCount
+  pub swaps-few : s .figures .swaps ≤ mostCount
 
 -- ---- what is left
 -- what the reference has done: its answer, its dots, and their table

@@ -1,16 +1,32 @@
 -- A scan at one cell, and the trials of a swap scan there: which partner is taken, and that none of the first is.
-use mathlib.Core.Bool.{Bool, false, _&&_}
+use mathlib.Core.Bool.{Bool, false, _&&_, not}
 use mathlib.Core.List.{List}
 use mathlib.Core.Path.{_≡_}
-use Prim.Native.Nat.{ℕ, _<_}
+use Prim.Native.Nat.{ℕ, _+_, _<_}
+use lib.Dec.{eqb}
+use lib.IntN.{ℤ, pos, _+ℤ_, _-ℤ_, _*ℤ_}
 use lib.ListN.{getD, drop}
+use lib.Signed.{ltZ}
 use Rattle.model.specs.declared.Progress.{Progress}
-use Rattle.model.specs.Change.{swap, lowers}
+use Rattle.model.specs.Change.{sign, swap, lowers}
 use Rattle.model.specs.Error.{Target}
 use Rattle.model.specs.Partners.{Offset, offsets, partner}
-use Rattle.model.specs.Reference.{reference, Performed}
+use Rattle.model.specs.Calls.{Reply, result, refused}
+use Rattle.model.specs.Reference.{reference, Performed, Tried, accepted, declined}
 use Rattle.model.specs.Scan.{Rule, Sweep, suits, swapsBy, tryEach, progressOf}
 use Rattle.invariants.specs.Partners.{offsetOf, itself}
+
+-- a trial by the table: the dots of m and n are unlike, and s(m) × (T(m) - T(n)) + worth is below 0
+abbrev pub lowersBy : (dots : List ℕ) (table : List ℤ) (m n : ℕ) (worth : ℤ) → Bool
+lowersBy dots table m n worth =
+    not (eqb (getD dots m 0) (getD dots n 0))
+    && ltZ (sign dots m *ℤ (getD table m (pos 0) -ℤ getD table n (pos 0)) +ℤ worth) (pos 0)
+
+-- what a scan has come to once an attempt has answered
+abbrev pub advanced : Progress → Reply Tried → Progress
+advanced r (result (accepted s d)) = record { stats = s; changes = r .changes + 1 }
+advanced r (result (declined d)) = r
+advanced r (refused n k) = r
 
 -- a scan under way, with these dots and the figures of this progress
 abbrev pub sweepOf : List ℕ → Progress → Sweep

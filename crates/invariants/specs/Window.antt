@@ -38,6 +38,12 @@ mostKernel = 1048576
 abbrev pub mostWorth : ℕ
 mostWorth = 534773760
 
+-- small numbers in a square of reach 2r at the front of a list
+pub record HoldsSquare (r : ℕ) (c : List ℤ) : Type 0 where
+  pub near : r ≤ 3
+  pub long : (4 * r + 1) * (4 * r + 1) ≤ length c
+  pub small : Small mostKernel c
+
 -- c at every offset, in a square of reach 2r at the front of a list
 pub record HoldsKernel (r : ℕ) (psf : List ℕ) (c : List ℤ) : Type 0 where
   pub long : (4 * r + 1) * (4 * r + 1) ≤ length c

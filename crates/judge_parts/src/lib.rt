@@ -3,11 +3,10 @@
 ghost use mathlib.Core.List.{[], _∷_};
 ghost use mathlib.Core.Path.{_≡_};
 ghost use Prim.Native.Nat.{_≤_};
-ghost use lib.ListN.{length};
-ghost use Rattle.model.specs.Psf.{total};
 ghost use Rattle.model.specs.Refusal.{firstOf, either, above, badSize, badRadius, badReach, badKind, badLength, badSum};
 ghost use Rattle.model.specs.Refusal.{badDot, badGiven, badMeasures};
 use model::Measures;
+use slices::sum;
 
 // whether a byte is above the limit
 fn any_above(limit: u8, bytes: &[u8]) -> bool

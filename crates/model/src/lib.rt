@@ -1,5 +1,14 @@
 // The public types of the plate maker. What they mean, and the promises, are in specs/.
 
+// The most cells of a plate: 256².
+pub const MOST_CELLS: usize = 65536;
+
+// The largest squared error.
+pub const MOST_SQUARED: i64 = 4468483974758400;
+
+// The largest count of a ledger: 2^44.
+pub const MOST_COUNT: u64 = 17592186044416;
+
 // Document 01's measures: the size of the plate, the radius of the psf, the reach of a swap and the kind of start.
 pub struct Measures {
     pub width: usize,

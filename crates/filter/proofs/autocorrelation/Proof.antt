@@ -12,11 +12,14 @@ judge-autocorrelation-requires c κs = search needs
 
 returns : tie.Need-returns
 unfolding autocorrelationCall
-returns c = is-refused _ _ _ (c .before .judge-autocorrelation .ensures) (c .if1 .taken)
+returns c =
+    let (reply, left) = is-refused _ _ _ (c .before .judge-autocorrelation .ensures) (c .if1 .taken) in
+    record { reply-is = reply; left-is = left }
 
 autocorrelate-requires : tie.Need-autocorrelate-requires
 autocorrelate-requires c κs =
-    autocorrelation-fits _ _ _ (sym (c .before .before .judge-autocorrelation .ensures) ∙ c .before .if1 .left)
+    let e : tie.Else1 = search in
+    autocorrelation-fits _ _ _ (sym (e .before .judge-autocorrelation .ensures) ∙ e .if1 .left)
 
 same-length : tie.Need-same-length
 same-length c = search needs
@@ -24,8 +27,10 @@ same-length c = search needs
 returns-2 : tie.Need-returns-2
 unfolding autocorrelationCall
 returns-2 c =
-    let e = c .before .before .before in
-    is-done _ _ _ (sym (e .before .judge-autocorrelation .ensures) ∙ e .if1 .left) (c .before .autocorrelate .ensures)
+    let e : tie.Else1 = search in
+    let taken = sym (e .before .judge-autocorrelation .ensures) ∙ e .if1 .left in
+    let (reply, left) = is-done _ _ _ taken (c .before .autocorrelate .ensures) in
+    record { reply-is = reply; left-is = left }
 
 pub autocorrelation-spec : {M : Type 1} → statement M
 autocorrelation-spec =

@@ -12,11 +12,14 @@ judge-halftone-requires c κs = search needs
 
 returns : tie.Need-returns
 unfolding filteredErrorCall
-returns c = is-refused _ _ _ (c .before .judge-halftone .ensures) (c .if1 .taken)
+returns c =
+    let (reply, left) = is-refused _ _ _ (c .before .judge-halftone .ensures) (c .if1 .taken) in
+    record { reply-is = reply; left-is = left }
 
 filter-requires : tie.Need-filter-requires
 filter-requires c κs =
-    halftone-fits _ _ _ _ _ _ _ (sym (c .before .before .judge-halftone .ensures) ∙ c .before .if1 .left)
+    let e : tie.Else1 = search in
+    halftone-fits _ _ _ _ _ _ _ (sym (e .before .judge-halftone .ensures) ∙ e .if1 .left)
 
 same-length : tie.Need-same-length
 same-length c = search needs
@@ -24,9 +27,10 @@ same-length c = search needs
 returns-2 : tie.Need-returns-2
 unfolding filteredErrorCall
 returns-2 c =
-    is-done _ _ _
-    (sym (c .before .before .before .before .judge-halftone .ensures) ∙ c .before .before .before .if1 .left)
-    (c .before .filter .ensures)
+    let e : tie.Else1 = search in
+    let taken = sym (e .before .judge-halftone .ensures) ∙ e .if1 .left in
+    let (reply, left) = is-done _ _ _ taken (c .before .filter .ensures) in
+    record { reply-is = reply; left-is = left }
 
 pub filtered-error-spec : {M : Type 1} → statement M
 filtered-error-spec =

@@ -12,7 +12,7 @@ use Rattle.algebra.proofs.Machine.{Holds, of-cast, size-of}
 use Rattle.model.specs.Basic.{tabulate}
 use Rattle.invariants.proofs.Window.{scaled-by}
 use Rattle.model.proofs.Basic.{table-long}
-use Rattle.invariants.proofs.Window.{table-small}
+use Rattle.invariants.proofs.Window.{small-by}
 use Rattle.filter_passes.specs.Passes.{spreadAt, spread}
 use Rattle.filter_passes.proofs.Passes.{block-ends, spread-none, spread-next, spread-small}
 use Rattle.filter_passes.proofs.spread.Statement.{statement}
@@ -26,8 +26,8 @@ Inv-loop width height radius psf e out₀ span k₀ out k =
 abbrev μ-loop : tie.MeasureT-loop
 μ-loop width height radius psf e out₀ span k₀ out k = length psf - k
 
-clear-requires : tie.Need-clear-requires Inv-loop μ-loop
-clear-requires c κs = tt
+clear-numbers-requires : tie.Need-clear-numbers-requires Inv-loop μ-loop
+clear-numbers-requires c κs = tt
 
 mul-span : tie.Need-mul-span Inv-loop μ-loop
 mul-span c = let r = c .before .before .before .before .pre .0 .3 .near in omega arith
@@ -39,7 +39,7 @@ loop-holds : tie.Need-loop-holds Inv-loop μ-loop
 loop-holds c =
     let s = c .before .before .before .before in (
       omega arith,
-      c .before .clear .ensures ∙ ap (λ n. tabulate n (λ q. pos 0)) (s .pre .1 .1)
+      c .before .clear-numbers .ensures ∙ ap (λ n. tabulate n (λ q. pos 0)) (s .pre .1 .1)
           ∙ spread-none (s .args .width) (s .args .height) (s .args .radius) (s .args .psf .now) (s .args .e .now) _,
     )
 
@@ -86,7 +86,7 @@ add-rows-requires c κs =
         (
           λ y h. omega (arith, rows-apart (a .width) h, p .1 .0 .0),
           (
-            table-small _ _ (l .inv .1) (λ q.
+            small-by _ _ (l .inv .1) (λ q.
                 le-trans
                 (spread-small (a .width) (a .height) (a .radius) (a .psf .now) (a .e .now) (l .k) q (p .0 .0)
                 (p .1 .0 .1) (p .0 .3 .sum-high) (l .inv .0))
@@ -132,7 +132,7 @@ spread-spec =
     (tie.spec
     Inv-loop
     μ-loop
-    clear-requires
+    clear-numbers-requires
     mul-span
     add-span
     loop-holds

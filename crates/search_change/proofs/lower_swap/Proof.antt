@@ -2,7 +2,7 @@
 -- either order.
 use mathlib.Core.Bool.{Bool, true, false, _&&_, not}
 use mathlib.Core.Path.{_≡_, refl, sym, ap, _∙_}
-use Prim.Native.Nat.{ℕ}
+use Prim.Native.Nat.{ℕ, _*_}
 use lib.Dec.{lit<, eqb}
 use lib.IntN.{ℤ, pos, _+ℤ_, _-ℤ_, _*ℤ_}
 use lib.ListN.{getD}
@@ -12,6 +12,8 @@ use mir.Val.{toZ, ofZ}
 use borrow.Author.Needs.{needs}
 use Rattle.algebra.proofs.Machine.{Holds, of-small, named, add-fits, add-holds}
 use Rattle.model.specs.Change.{sign}
+use Rattle.invariants.specs.Window.{mostWorth}
+use Rattle.model.specs.Error.{mostFiltered}
 use Rattle.search_change.proofs.lower_swap.Statement.{statement}
 use Rattle.search_change.proofs.lower_swap.Tie as tie
 
@@ -38,10 +40,10 @@ module _ (c : tie.After-difference) where
   abbrev term : ℤ
   term = sign (s .args .dots .now) (s .args .m) *ℤ (entry (s .args .m) -ℤ entry (s .args .n))
 
-  first : Holds w32 (ofZ w32 (c .difference .result)) term 534773760
+  first : Holds w32 (ofZ w32 (c .difference .result)) term (2 * mostFiltered)
   first = named (c .difference .ensures .0) (of-small w32 (c .difference .result) (c .difference .ensures .1) (lit< tt))
 
-  second : Holds w32 (ofZ w32 (s .args .worth)) (s .args .worth) 534773760
+  second : Holds w32 (ofZ w32 (s .args .worth)) (s .args .worth) mostWorth
   second = of-small w32 (s .args .worth) (s .pre .1 .1) (lit< tt)
 
   -- the test as the code makes it

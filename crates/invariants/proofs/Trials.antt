@@ -16,12 +16,11 @@ use Rattle.model.specs.declared.Progress.{Progress}
 use Rattle.model.specs.Change.{swap, lowers}
 use Rattle.model.specs.Error.{Target}
 use Rattle.model.specs.Partners.{Offset, offsets, partner}
-use Rattle.invariants.specs.Partners.{biased, HoldsOffsets}
+use Rattle.invariants.specs.Partners.{offsetOf, itself, HoldsOffsets}
 use Rattle.model.specs.Scan.{Sweep, suits, swaps}
-use Rattle.invariants.specs.Trials.{swapsAfter, sweepOf, visit}
+use Rattle.invariants.specs.Trials.{swapsAfter, sweepOf, visit, lowersAt, Failed}
 use Rattle.invariants.proofs.Loop.{left-none, pass-unsuited, pass-declined, taken}
 use Rattle.model.proofs.Scan.{more}
-use Rattle.search_swaps.specs.Trials.{takes, Failed}
 
 -- ---- what a scan that has come to r makes of cell m from the k-th offset on
 module _ (t : Target) (reach : ℕ) (dots : List ℕ) (r : Progress) (m : ℕ) where
@@ -29,10 +28,10 @@ module _ (t : Target) (reach : ℕ) (dots : List ℕ) (r : Progress) (m : ℕ) w
   left k = visit t (swapsAfter t reach k) dots r m
 
   abbrev offset : ℕ → Offset
-  offset k = getD (offsets reach) k (biased 6 6)
+  offset k = getD (offsets reach) k (offsetOf itself)
 
   -- the partner there is not taken
-  passed : (k : ℕ) → k < length (offsets reach) → takes t dots m (offset k) ≡ false → left k ≡ left (suc k)
+  passed : (k : ℕ) → k < length (offsets reach) → lowersAt t dots m (offset k) ≡ false → left k ≡ left (suc k)
   passed k h = go (suits t dots m (offset k)) refl
     where
       go : (b : Bool) → suits t dots m (offset k) ≡ b
@@ -50,37 +49,36 @@ module _ (t : Target) (reach : ℕ) (dots : List ℕ) (r : Progress) (m : ℕ) w
       ∙ all-failed k (omega arith) (record { each = λ j l. f .each j (omega arith) })
 
   -- the partner at cell n is taken
-  pub swap-taken : (k : ℕ) → k < length (offsets reach) → {o : Offset} → offset k ≡ o → takes t dots m o ≡ true
+  pub swap-taken : (k : ℕ) → k < length (offsets reach) → {o : Offset} → offset k ≡ o → lowersAt t dots m o ≡ true
       → {n : ℕ} → partner (t .width) m o ≡ n
       → visit t (swapsAfter t reach k) dots r m ≡ more (sweepOf dots r) (swap dots m n)
   swap-taken k h e l there =
-      let (suited, lower) = and-eq-true-iff _ _ .0 (subst (λ o. takes t dots m o ≡ true) (sym e) l) in
+      let (suited, lower) = and-eq-true-iff _ _ .0 (subst (λ o. lowersAt t dots m o ≡ true) (sym e) l) in
       taken t reach (sweepOf dots r) m k h suited lower
       ∙ ap (λ i. more (sweepOf dots r) (swap dots m i)) (ap (partner (t .width) m) e ∙ there)
 
 -- ---- with the offsets as the code holds them
-module _ (t : Target) {reach : ℕ} {downs rights : List ℕ} {count : ℕ} (held : HoldsOffsets reach downs rights count)
-    (dots : List ℕ) (m : ℕ) where
+module _ (t : Target) {reach : ℕ} {codes : List ℕ} (held : HoldsOffsets reach codes) (dots : List ℕ) (m : ℕ) where
   -- what a trial that fails shows
   abbrev Fails : ℕ → Type 0
-  Fails k = takes t dots m (biased (getD downs k 0) (getD rights k 0)) ≡ false
+  Fails k = lowersAt t dots m (offsetOf (getD codes k 0)) ≡ false
 
-  known : (k : ℕ) → k < count → Fails k → takes t dots m (getD (offsets reach) k (biased 6 6)) ≡ false
-  known k h = subst (λ o. takes t dots m o ≡ false) (sym (held .at k h))
+  known : (k : ℕ) → k < length codes → Fails k → lowersAt t dots m (getD (offsets reach) k (offsetOf itself)) ≡ false
+  known k h = subst (λ o. lowersAt t dots m o ≡ false) (sym (held .at k h))
 
-  pub failed-all : ((k : ℕ) → k < count → Fails k) → Failed t reach dots m count
+  pub failed-all : ((k : ℕ) → k < length codes → Fails k) → Failed t reach dots m (length codes)
   failed-all fails = record { each = λ k h. known k h (fails k h) }
 
   -- one more
-  pub failed-next : (k : ℕ) → k < count → Fails k → Failed t reach dots m k → Failed t reach dots m (k + 1)
+  pub failed-next : (k : ℕ) → k < length codes → Fails k → Failed t reach dots m k → Failed t reach dots m (k + 1)
   failed-next k h e f = record { each = λ j l. go j (ℕ-discrete j k) l }
     where
-      go : (j : ℕ) → Dec (j ≡ k) → j < k + 1 → takes t dots m (getD (offsets reach) j (biased 6 6)) ≡ false
+      go : (j : ℕ) → Dec (j ≡ k) → j < k + 1 → lowersAt t dots m (getD (offsets reach) j (offsetOf itself)) ≡ false
       go j (yes s) l = rw s (known k h e)
       go j (no s) l = f .each j (omega arith)
 
   -- all of them: the scan stays as it is
-  pub failed-still : Failed t reach dots m count → (r : Progress) → visit t (swaps t reach) dots r m ≡ sweepOf dots r
+  pub failed-still : Failed t reach dots m (length codes) → (r : Progress) → visit t (swaps t reach) dots r m ≡ sweepOf dots r
   failed-still f r =
-      sym (all-failed t reach dots r m count (le-of-eq (held .count-is)) f)
-      ∙ left-none t reach (sweepOf dots r) m count (le-of-eq (sym (held .count-is)))
+      sym (all-failed t reach dots r m (length codes) (le-of-eq (held .long)) f)
+      ∙ left-none t reach (sweepOf dots r) m (length codes) (le-of-eq (sym (held .long)))
