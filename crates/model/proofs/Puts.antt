@@ -1,6 +1,6 @@
 -- How a text is put into an output (`Puts`), and what is left of it to put.
 --   puts-none, puts-byte, puts-then       nothing, one byte, one text after another
---   puts-as                               the same text in other words
+--   front-length, puts-as                 a text at the front; the same text in other words
 --   left-all, left-fits, left-next        of a text that a loop puts part by part: all of it; room for a part; after it
 --   left-last, left-none                  its last part, and nothing left
 use mathlib.Core.Path.{_≡_, refl, sym, _∙_, ap, ap₂, subst}
@@ -14,6 +14,10 @@ use Rattle.model.proofs.Tables.{sets-append}
 
 pub puts-none : {out : List ℕ} {at : ℕ} → Puts [] out out at at
 puts-none = record { end-is = omega arith; bytes-are = refl }
+
+-- at the front its length is answered
+pub front-length : {text out put : List ℕ} {end : ℕ} → Puts text out put 0 end → end ≡ length text
+front-length p = omega (arith, p .end-is)
 
 pub puts-byte : {out : List ℕ} {at : ℕ} (b : ℕ) → Puts (b ∷ []) out (set out at b) at (at + 1)
 puts-byte b = record { end-is = refl; bytes-are = refl }
