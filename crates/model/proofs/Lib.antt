@@ -30,6 +30,7 @@ pub mod Lists
 pub mod Demand3
 -- Sheet and program
 pub mod Text
+pub mod Puts
 pub mod Rows
 pub mod Format
 pub mod Agrees

@@ -4,10 +4,10 @@ ghost use mathlib.Core.Path.{_≡_};
 ghost use Prim.Native.Nat.{_≤_, _<_, _+_, min};
 ghost use lib.IntN.{pos};
 ghost use lib.ListN.{length};
-ghost use lib.Seq.{sets};
 ghost use Rattle.model.specs.Basic.{tabulate};
 ghost use Rattle.model.specs.Error.{cellAt, mostCells};
 ghost use Rattle.model.specs.Psf.{total};
+ghost use Rattle.model.specs.Text.{Puts};
 use model::Cell;
 
 // the place of a cell in raster order
@@ -88,8 +88,7 @@ pub fn copy_numbers(numbers: &[i32], out: &mut [i32])
 // Puts bytes at a place, and answers the place after them.
 pub fn put_bytes(out: &mut [u8], at: usize, bytes: &[u8]) -> usize
     requires { ⌜ at + length (now bytes) ≤ length (now out) ⌝ }
-    ensures { λ r. ⌜ r ≡ at + length (now (bytes .entry)) ⌝ }
-    ensures { λ _. ⌜ now (out .exit) ≡ sets (now (out .entry)) at (now (bytes .entry)) ⌝ }
+    ensures { λ r. ⌜ Puts (now (bytes .entry)) (now (out .entry)) (now (out .exit)) at r ⌝ }
 {
     let mut i: usize = 0;
     while i < bytes.len() {

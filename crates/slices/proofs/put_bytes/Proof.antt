@@ -1,24 +1,22 @@
 -- `slices::put_bytes` meets its contract. The loop's invariant: the bytes from `i` on are left to put.
-use mathlib.Core.Path.{_≡_, refl, sym, _∙_, ap}
 use Prim.Native.Nat.{_+_, _-_, _≤_}
-use native.Mathlib.Nat.{add-zero}
+use native.Mathlib.Nat.{add-zero, add-assoc}
 use native.Mathlib.Omega.{arith}
 use borrow.Author.Needs.{needs}
-use lib.ListN.{length, drop, length-set, drop-of-length-le}
-use lib.Seq.{sets}
-use Rattle.slices.proofs.Bytes.{bytes-next}
+use lib.ListN.{length, drop, drop-of-length-le}
+use Rattle.model.proofs.Puts.{Left, left-all, left-next, left-none, puts-byte}
+use Rattle.slices.proofs.Bytes.{byte-next}
 use Rattle.slices.proofs.put_bytes.Statement.{statement}
 use Rattle.slices.proofs.put_bytes.Tie as tie
 
 abbrev Inv-loop : tie.InvT-loop
-Inv-loop out₀ at bytes i₀ out i =
-    (i ≤ length bytes) × (length out ≡ length out₀) × (sets out (at + i) (drop i bytes) ≡ sets out₀ at bytes)
+Inv-loop out₀ at bytes i₀ out i = (i ≤ length bytes) × Left bytes out₀ at (drop i bytes) out (at + i)
 
 abbrev μ-loop : tie.MeasureT-loop
 μ-loop out₀ at bytes i₀ out i = length bytes - i
 
 loop-holds : tie.Need-loop-holds Inv-loop μ-loop
-loop-holds c = (omega arith, refl, rw add-zero)
+loop-holds c = (omega arith, rw add-zero left-all)
 
 shared-slice-read-out : tie.Need-shared-slice-read-out Inv-loop μ-loop
 shared-slice-read-out c = search needs
@@ -37,12 +35,11 @@ loop-less c = search needs
 
 loop-again : tie.Need-loop-again Inv-loop μ-loop
 loop-again c =
-    let l = c .before .before in
-    let a = l .before .args in (
-      omega arith,
-      simp length-set (search needs),
-      sym (bytes-next (l .loop .out) (a .bytes .now) (a .at) (l .loop .i) (omega arith)) ∙ l .loop .inv .2,
-    )
+    let l : tie.At-loop Inv-loop μ-loop = search in
+    let a = l .before .args in
+    let i = l .loop .i in
+    let put = left-next (l .loop .inv .1) (byte-next (a .bytes .now) i (omega arith)) (puts-byte _) in
+    (omega arith, rw (← add-assoc) put)
 
 add-result : tie.Need-add-result Inv-loop μ-loop
 add-result c = search needs
@@ -52,10 +49,8 @@ same-length c = search needs
 
 returns : tie.Need-returns Inv-loop μ-loop
 returns c =
-    let l = c .before .loop in
-    let a = c .before .before .args in
-    let none = drop-of-length-le (a .bytes .now) (c .loop-test .left) in
-    (omega arith, sym (ap (sets (l .out) (a .at + l .i)) none) ∙ l .inv .2)
+    let l : tie.At-loop Inv-loop μ-loop = search in
+    left-none (l .loop .inv .1) (drop-of-length-le (l .before .args .bytes .now) (c .loop-test .left))
 
 pub put-bytes-spec : {M : Type 1} → statement M
 put-bytes-spec =
