@@ -162,3 +162,132 @@ module _ (a : tie.Else3 Inv-partners μ-partners Inv-loop μ-loop) where
       of-small w32 (getD (s (l v2) .args .worths .now) k (pos 0))
       (worths-small (worths (l v2)) (s (l v2) .pre .0 .kernel .small) .each k) (lit< tt) .value
       ∙ worths (l v2) .at k short
+
+shared-slice-read-lowering : tie.Need-shared-slice-read-lowering Inv-partners μ-partners Inv-loop μ-loop
+shared-slice-read-lowering c =
+    let a : tie.Else3 Inv-partners μ-partners Inv-loop μ-loop = search in short a
+
+mul-lowering : tie.Need-mul-lowering Inv-partners μ-partners Inv-loop μ-loop
+mul-lowering c = ?
+
+shared-slice-copy-out-lowering : tie.Need-shared-slice-copy-out-lowering Inv-partners μ-partners Inv-loop μ-loop
+shared-slice-copy-out-lowering c =
+    let a : tie.Else3 Inv-partners μ-partners Inv-loop μ-loop = search in
+    omega (arith, short a, worths (l (v2 a)) .long)
+
+lowering-requires : tie.Need-lowering-requires Inv-partners μ-partners Inv-loop μ-loop
+lowering-requires c κs =
+    let a : tie.Else3 Inv-partners μ-partners Inv-loop μ-loop = search in (judged (v2 a), worth-is a)
+
+add-k : tie.Need-add-k Inv-partners μ-partners Inv-loop μ-loop
+add-k c = ?
+
+partners-less : tie.Need-partners-less Inv-partners μ-partners Inv-loop μ-loop
+partners-less c =
+    let a : tie.Else3 Inv-partners μ-partners Inv-loop μ-loop = search in omega (arith, short a)
+
+partners-again : tie.Need-partners-again Inv-partners μ-partners Inv-loop μ-loop
+partners-again c =
+    let a : tie.Else3 Inv-partners μ-partners Inv-loop μ-loop = search in
+    let tried : tie.After-lowering Inv-partners μ-partners Inv-loop μ-loop = search in
+    let l = l (v2 a) in (
+      omega (arith, short a),
+      failed-next (t l) (held l) (l .loop .dots) (m l) (k a) (short a)
+          (sym (tried .lowering .ensures) ∙ c .if4 .left) (a .before .partners .inv .1),
+    )
+
+-- the partner found, if one was
+module _ (j : tie.Joined3 Inv-partners μ-partners Inv-loop μ-loop) where
+  abbrev v3 : OnCell
+  v3 = search
+
+  abbrev l3 : AtCell
+  l3 = l v3
+
+  abbrev Takes : ℕ → Type 0
+  Takes n =
+      n < length (s l3 .args .codes .now)
+      → lowersAt (t l3) (l3 .loop .dots) (m l3) (offsetOf (getD (s l3 .args .codes .now) n 0)) ≡ true
+
+  ends : Takes (j .if3 .found) × (j .if3 .found ≡ j .before .partners .k)
+  ends =
+      either (j .if3 .came)
+      (λ w. (λ h. absurd (omega (arith, w .0 .taken, w .1)), w .1))
+      (λ w. ?)
+
+  -- no partner before it is taken, so what is left is all of the cell's attempts
+  all : visit (t l3) (swapsAfter (t l3) (s l3 .args .measures .reach) (j .if3 .found)) (l3 .loop .dots)
+      (l3 .loop .progress) (m l3)
+      ≡ visit (t l3) (swaps (t l3) (s l3 .args .measures .reach)) (l3 .loop .dots) (l3 .loop .progress) (m l3)
+  all =
+      let (so-far, failed) = j .before .partners .inv in
+      all-failed (t l3) (s l3 .args .measures .reach) (l3 .loop .dots) (l3 .loop .progress) (m l3) (j .if3 .found)
+      (omega (arith, so-far, ends .1, held l3 .long))
+      (subst (Failed (t l3) (s l3 .args .measures .reach) (l3 .loop .dots) (m l3)) (sym (ends .1)) failed)
+
+swap-cell-requires : tie.Need-swap-cell-requires Inv-partners μ-partners Inv-loop μ-loop
+swap-cell-requires c κs =
+    let j : tie.Joined3 Inv-partners μ-partners Inv-loop μ-loop = search in
+    let l = l3 j in
+    (ready l, ((here (v3 j), scanning-few (l .loop .inv) (lawful l) (sound l), held l), ends j .0))
+
+next-requires : tie.Need-next-requires Inv-partners μ-partners Inv-loop μ-loop
+next-requires c κs =
+    let j : tie.Joined3 Inv-partners μ-partners Inv-loop μ-loop = search in place-fits (judged (v3 j) .0) (here (v3 j))
+
+loop-less-2 : tie.Need-loop-less-2 Inv-partners μ-partners Inv-loop μ-loop
+loop-less-2 c =
+    let j : tie.Joined3 Inv-partners μ-partners Inv-loop μ-loop = search in
+    omega (arith, c .next .ensures .0, is-a-cell (v3 j))
+
+loop-again-2 : tie.Need-loop-again-2 Inv-partners μ-partners Inv-loop μ-loop
+loop-again-2 c =
+    let done : tie.After-swap-cell Inv-partners μ-partners Inv-loop μ-loop = search in
+    let j : tie.Joined3 Inv-partners μ-partners Inv-loop μ-loop = search in
+    let l = l3 j in
+    scanning-next (l .loop .inv) (lawful l) (sound l) (here (v3 j)) (c .next .ensures .1) (c .next .ensures .0)
+    (subst (λ (x : Sweep). Leaves (t l) (performed (t l) x) _ _ _) (all j) (done .swap-cell .ensures))
+
+same-length : tie.Need-same-length Inv-partners μ-partners Inv-loop μ-loop
+same-length c =
+    let l : AtCell = search in
+    ready l .later .plate .halftone .dots-length ∙ sym (s l .pre .0 .later .plate .halftone .dots-length)
+
+same-length-2 : tie.Need-same-length-2 Inv-partners μ-partners Inv-loop μ-loop
+same-length-2 c =
+    let l : AtCell = search in
+    ready l .later .plate .halftone .table-length ∙ sym (s l .pre .0 .later .plate .halftone .table-length)
+
+returns : tie.Need-returns Inv-partners μ-partners Inv-loop μ-loop
+returns c = let l : AtCell = search in scanning-end (l .loop .inv) (lawful l) (sound l) (c .if1 .left)
+
+pub swap-by-spec : {M : Type 1} → statement M
+swap-by-spec =
+    tie.close
+    (tie.spec
+    Inv-partners
+    μ-partners
+    Inv-loop
+    μ-loop
+    loop-holds
+    clear-swaps-requires
+    ahead-requires
+    loop-less
+    loop-again
+    run-end-requires
+    first-trial-requires
+    partners-holds
+    shared-slice-read-lowering
+    mul-lowering
+    shared-slice-copy-out-lowering
+    lowering-requires
+    add-k
+    partners-less
+    partners-again
+    swap-cell-requires
+    next-requires
+    loop-less-2
+    loop-again-2
+    same-length
+    same-length-2
+    returns)

@@ -91,3 +91,6 @@ module _ (a : tie.Else1) where
   unlike =
       suits-unlike (target start) row col (on start .col-below) (rowOf (code start)) (columnOf (code start))
       (start .args .dots .now) suited
+
+shared-slice-read-code : tie.Need-shared-slice-read-code
+shared-slice-read-code c = search needs
