@@ -1,5 +1,6 @@
 -- Runs of cells where nothing is accepted, as the loops over them go.
 --   raised             a flag that is raised stays raised
+--   worth-held         what an offset is worth, as a local holds it
 --   sum-fits, unlower  the sum of a trial, of locals: it fits, and where it is not below 0 the trial fails
 --   offset-clear       a run that is clear from cell to cell is clear at that offset
 use mathlib.Core.Bool.{Bool, true, false, not, and-false, true≢false}
@@ -19,7 +20,7 @@ use Rattle.algebra.proofs.Machine.{Holds, named, of-small, add-fits, add-holds}
 use Rattle.model.specs.Change.{sign}
 use Rattle.model.specs.Error.{cellAt, mostFiltered}
 use Rattle.invariants.specs.Partners.{rowOf, columnOf}
-use Rattle.invariants.specs.Window.{mostWorth}
+use Rattle.invariants.specs.Window.{Small, mostWorth}
 use Rattle.search_runs.specs.Run.{Fails, SwapsClear, OffsetClear}
 
 -- a flag that is raised stays raised: as long as it is down, what held before holds, and one cell more
@@ -29,6 +30,10 @@ raised (inl (y, e)) held more f = absurd (true≢false (sym e ∙ f))
 raised (inr (n, e)) held more f = more n (held (sym e ∙ f))
 
 -- ---- the sum of a trial, as the locals hold its terms
+pub worth-held : {l : List ℤ} → Small mostWorth l → (q : ℕ)
+    → Holds w32 (ofZ w32 (getD l q (pos 0))) (getD l q (pos 0)) mostWorth
+worth-held {l} small q = of-small w32 (getD l q (pos 0)) (small .each q) (lit< tt)
+
 pub sum-fits : (difference : ℤ) {worth : ℤ} {bits : ℕ} → natAbs difference ≤ 2 * mostFiltered
     → Holds w32 bits worth mostWorth → SFits w32 (toZ w32 (ofZ w32 difference) +ℤ toZ w32 bits)
 sum-fits difference small held = add-fits (of-small w32 difference small (lit< tt)) held (lit< tt)

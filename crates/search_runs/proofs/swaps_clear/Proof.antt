@@ -5,16 +5,12 @@ use Prim.Native.Nat.{ℕ, _+_, _*_, _-_, _≤_, _<_}
 use native.Mathlib.Nat.{mul-le-mul}
 use native.Mathlib.Omega.{arith}
 use borrow.Author.Count.{below-none, below-more}
-use lib.Dec.{lit<}
 use lib.IntN.{pos}
 use lib.ListN.{length, getD}
-use mir.Syntax.{w32}
-use mir.Val.{ofZ}
-use Rattle.algebra.proofs.Machine.{Holds, of-small, size-of, factors-fit}
+use Rattle.algebra.proofs.Machine.{size-of, factors-fit}
 use Rattle.invariants.specs.Partners.{rowOf, columnOf}
-use Rattle.invariants.specs.Window.{mostWorth}
 use Rattle.search_runs.specs.Run.{OffsetClear}
-use Rattle.search_runs.proofs.Run.{offset-clear}
+use Rattle.search_runs.proofs.Run.{worth-held, offset-clear}
 use Rattle.search_runs.proofs.swaps_clear.Statement.{statement}
 use Rattle.search_runs.proofs.swaps_clear.Tie as tie
 
@@ -100,17 +96,12 @@ mul-any-swaps c = omega arith
 shared-slice-copy-out-any-swaps : tie.Need-shared-slice-copy-out-any-swaps Inv-loop μ-loop
 shared-slice-copy-out-any-swaps c = omega arith
 
--- what an offset is worth, as the local holds it
-worth : (s : tie.Start Inv-loop μ-loop) (j : ℕ) → let z = getD (s .args .worths .now) j (pos 0) in
-    Holds w32 (ofZ w32 z) z mostWorth
-worth s j = of-small w32 _ (s .pre .1 .1 .1 .each j) (lit< tt)
-
 any-swaps-requires : tie.Need-any-swaps-requires Inv-loop μ-loop
 any-swaps-requires c κs =
     let s : tie.Start Inv-loop μ-loop = search in
     let l : tie.At-loop Inv-loop μ-loop = search in
     let p : tie.After-index Inv-loop μ-loop = search in (
-      (s .pre .1 .0 .0, size-of (worth s (l .loop .j)), omega arith),
+      (s .pre .1 .0 .0, size-of (worth-held (s .pre .1 .1 .1) (l .loop .j)), omega arith),
       (omega (arith, p .index .ensures), omega arith),
     )
 
@@ -132,7 +123,7 @@ loop-again c =
       below-more _ _ (l .loop .inv .0)
           (offset-clear (s .args .width) (getD (s .args .codes .now) (l .loop .j) 0) (s .args .at .row) (s .args .at .col) _
           (omega arith)
-          (rw (worth s (l .loop .j) .value, p .index .ensures) at (t .any-swaps .ensures (c .if3 .left)))),
+          (rw (worth-held (s .pre .1 .1 .1) (l .loop .j) .value, p .index .ensures) at (t .any-swaps .ensures (c .if3 .left)))),
       omega arith,
     )
 
