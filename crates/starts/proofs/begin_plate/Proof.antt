@@ -1,11 +1,9 @@
 -- `starts::begin_plate` meets its contract: the sums are those of the callees, and the counts are 0.
-use mathlib.Core.Path.{_≡_, _∙_}
+use mathlib.Core.Path.{_∙_}
 use native.Mathlib.Omega.{arith}
 use borrow.Author.Needs.{needs}
 use mir.Syntax.{w64}
-use mir.Val.{toZ, ofZ}
 use Rattle.algebra.proofs.Machine.{read-back}
-use Rattle.model.specs.Error.{targetOf, squaredError}
 use Rattle.model.specs.Ledger.{freshStats}
 use Rattle.model.proofs.Halftone.{few-cells}
 use Rattle.starts.proofs.begin_plate.Statement.{statement}
