@@ -8,6 +8,10 @@ use Rattle.algebra.specs.Sum.{sumTo}
 use Rattle.model.specs.Basic.{tabulate, AtMost}
 use Rattle.model.specs.Error.{errorOf}
 
+-- the most cells of a plate widened by r on each side: 262²
+abbrev pub mostWidened : ℕ
+mostWidened = 68644
+
 -- gray, dots and another slice of that length, all as long as one another
 pub record Alike (gray dots : List ℕ) (n : ℕ) : Type 0 where
   pub dots-long : length dots ≡ length gray

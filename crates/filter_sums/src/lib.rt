@@ -10,6 +10,9 @@ ghost use Rattle.filter_sums.specs.Sums.{Alike, errorsOf, weighed};
 use filter_passes::gather;
 use filter_passes::spread;
 
+// the most cells of a plate widened by r on each side: 262²
+const MOST_WIDENED: usize = 68644;
+
 // the error of a cell: 255 for a dot, less the gray
 fn error_at(gray: &[u8], dots: &[u8], n: usize) -> i32
     requires { ⌜ (n < length (now gray)) × (n < length (now dots)) × (getD (now dots) n 0 ≤ 1) ⌝ }
@@ -60,7 +63,7 @@ pub fn filter(
     ensures { λ _. let t = targetOf width height radius (now (psf .entry)) (now (gray .entry)) in
         ⌜ now (table .exit) ≡ filteredErrors t (now (dots .entry)) ⌝ }
 {
-    let mut g = [0i32; 68644];
+    let mut g = [0i32; MOST_WIDENED];
     let n = (height + 2 * radius) * (width + 2 * radius);
     errors(gray, dots, table);
     spread(width, height, radius, psf, table, &mut g[..n]);
