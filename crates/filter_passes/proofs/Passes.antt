@@ -29,7 +29,7 @@ use Rattle.invariants.proofs.Window.{small-tabulate}
 use Rattle.model.proofs.Spread.{perceived-spread, filtered-gathered}
 use Rattle.filter_window.specs.Run.{Ran}
 use Rattle.filter_passes.specs.declared.Frame.{Frame}
-use Rattle.filter_passes.specs.Passes.{Added, Lies, plate, widened, cornerOf, brought, passedAt, passed}
+use Rattle.filter_passes.specs.Passes.{Added, Lies, cellsAround, plate, widened, cornerOf, brought, passedAt, passed}
 use Rattle.filter_passes.specs.Passes.{spread, gathered}
 
 -- ---- a block, row by row
@@ -81,6 +81,10 @@ module _ (w h r : ℕ) where
   some : 0 < 2 * r + 1
   some = omega arith
 
+  -- in its own frame no entry moves the plate
+  stays : (k : ℕ) → cornerOf r (plate w) k ≡ 0
+  stays k = rw (NatL.mul-zero (k / s), NatL.mul-zero (k % s), NatL.zero-mul w) refl
+
   -- the plate lies in its frame, and in that of the widened plate
   pub plate-lies : {long : ℕ} → w ≤ 256 → long ≡ h * w → Lies w h r (plate w) long
   plate-lies {long} narrow e =
@@ -89,10 +93,10 @@ module _ (w h r : ℕ) where
         once = omega arith;
         wide = λ k. rw (NatL.mul-zero (k % s)) (omega arith);
         ends = λ k y l m.
-            rw (NatL.mul-zero (k / s), NatL.mul-zero (k % s), NatL.zero-mul w) (omega (arith, rows-apart w m, e));
+            rw (stays k) (omega (arith, rows-apart w m, e));
       }
 
-  pub widened-lies : {long : ℕ} → w ≤ 256 → r ≤ 3 → long ≡ (h + 2 * r) * (w + 2 * r) → Lies w h r (widened w r) long
+  pub widened-lies : {long : ℕ} → w ≤ 256 → r ≤ 3 → long ≡ cellsAround w h r → Lies w h r (widened w r) long
   widened-lies {long} narrow near e =
       record {
         narrow = omega arith;
@@ -102,7 +106,12 @@ module _ (w h r : ℕ) where
             let down : k / s < s = row< k some l in
             let along : k % s < s = column< k some in
             rw (NatL.mul-one (k / s), NatL.mul-one (k % s))
-            (omega (arith, e, NatL.add-mul (k / s) y span, rows-apart {y = k / s + y} {v = h + 2 * r} span (omega arith)));
+            (omega (
+              arith,
+              e,
+              NatL.add-mul (k / s) y span,
+              rows-apart {y = k / s + y} {v = h + 2 * r} span (omega arith),
+            ));
       }
 
   module _ (psf : List ℕ) (from to : Frame) (c : List ℤ) where
@@ -197,7 +206,7 @@ module _ (w h r : ℕ) where
     block-moved k Y X l =
         rw (NatL.mul-one (k / s), NatL.mul-one (k % s), cell-row {y = Y} l, cell-column Y l)
         (moved-cong h w (k / s) (k % s) Y X (λ n u.
-        rw (NatL.mul-zero (k / s), NatL.mul-zero (k % s), NatL.zero-mul w, NatL.zero-add (n / w * w), NatL.div-add-mod' n w)
+        rw (stays k, NatL.zero-add (n / w * w), NatL.div-add-mod' n w)
         (getD-tabulate (h * w) (errorOf 255 gray dots) n (pos 0) u)))
 
     spread-is : length psf ≡ (2 * r + 1) * (2 * r + 1) → (Y X : ℕ) → Y < h + 2 * r → X < span
@@ -218,7 +227,8 @@ module _ (w h r : ℕ) where
         moved-one h w _ _ _ (q / w) (q % w) (q / w) (q % w) (row< q wide l) (column< q wide)
         (rw (NatL.mul-zero (k / s)) (omega arith)) (rw (NatL.mul-zero (k % s)) (omega arith))
         ∙ ap (λ n. getD g n (pos 0))
-        (rw (NatL.div-add-mod' q w, NatL.mul-one (k / s), NatL.mul-one (k % s)) (index (k / s) (k % s) (q / w) (q % w) span))
+        (rw (NatL.div-add-mod' q w, NatL.mul-one (k / s), NatL.mul-one (k % s))
+        (index (k / s) (k % s) (q / w) (q % w) span))
 
     pub gathered-is : 0 < w → length psf ≡ (2 * r + 1) * (2 * r + 1)
         → gathered w h r psf (spread w h r psf errors) ≡ filteredErrors target dots

@@ -25,6 +25,10 @@ pub record Added (at stride : ℕ) (c : List ℤ) (from span n rows : ℕ) (amou
 abbrev pub mostSpread : ℕ
 mostSpread = 261120
 
+-- the cells of the widened plate
+abbrev pub cellsAround : (w h r : ℕ) → ℕ
+cellsAround w h r = (h + 2 * r) * (w + 2 * r)
+
 -- the frames of the plate, and of the widened plate
 abbrev pub plate : (w : ℕ) → Frame
 plate w = record { span = w; moves = 0 }
@@ -61,7 +65,7 @@ module _ (w h r : ℕ) where
 
   module _ (psf : List ℕ) where
     abbrev pub spread : List ℤ → List ℤ
-    spread e = passed psf (plate w) (widened w r) e ((h + 2 * r) * (w + 2 * r))
+    spread e = passed psf (plate w) (widened w r) e (cellsAround w h r)
 
     abbrev pub gathered : List ℤ → List ℤ
     gathered g = passed psf (widened w r) (plate w) g (h * w)

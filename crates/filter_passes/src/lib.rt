@@ -6,7 +6,8 @@ ghost use lib.ListN.{length};
 ghost use Rattle.model.specs.Error.{mostFiltered};
 ghost use Rattle.model.specs.Refusal.{PsfFits};
 ghost use Rattle.invariants.specs.Window.{Small, Scaled};
-ghost use Rattle.filter_passes.specs.Passes.{Added, Lies, mostSpread, cornerOf, passed, spread, gathered};
+ghost use Rattle.filter_passes.specs.Passes.{Added, Lies, mostSpread, cellsAround, cornerOf};
+ghost use Rattle.filter_passes.specs.Passes.{passed, spread, gathered};
 use filter_window::add_run;
 use slices::clear_numbers;
 
@@ -86,7 +87,7 @@ fn pass(
 // The first pass: the errors, moved by each entry of the psf and times that entry, over the widened plate.
 pub fn spread(width: usize, height: usize, radius: usize, psf: &[u8], e: &[i32], out: &mut [i32])
     requires { ⌜ (0 < width) × (width ≤ 256) × PsfFits radius (now psf) × Small 255 (now e) ⌝ }
-    requires { ⌜ (length (now e) ≡ height * width) × (length (now out) ≡ (height + 2 * radius) * (width + 2 * radius)) ⌝ }
+    requires { ⌜ (length (now e) ≡ height * width) × (length (now out) ≡ cellsAround width height radius) ⌝ }
     ensures { λ _. ⌜ now (out .exit) ≡ spread width height radius (now (psf .entry)) (now (e .entry)) ⌝ }
 {
     let span = width + 2 * radius;
@@ -101,7 +102,7 @@ pub fn spread(width: usize, height: usize, radius: usize, psf: &[u8], e: &[i32],
 // The second pass: at each cell, what stands around it in the widened plate, times the entries of the psf.
 pub fn gather(width: usize, height: usize, radius: usize, psf: &[u8], g: &[i32], out: &mut [i32])
     requires { ⌜ (0 < width) × (width ≤ 256) × PsfFits radius (now psf) × Small mostSpread (now g) ⌝ }
-    requires { ⌜ (length (now g) ≡ (height + 2 * radius) * (width + 2 * radius)) × (length (now out) ≡ height * width) ⌝ }
+    requires { ⌜ (length (now g) ≡ cellsAround width height radius) × (length (now out) ≡ height * width) ⌝ }
     ensures { λ _. ⌜ now (out .exit) ≡ gathered width height radius (now (psf .entry)) (now (g .entry)) ⌝ }
 {
     let span = width + 2 * radius;

@@ -36,8 +36,7 @@ fn errors(gray: &[u8], dots: &[u8], out: &mut [i32])
 
 // Σ e(m) × T(m) over the cells, the T(m) being in the table
 fn weigh(gray: &[u8], dots: &[u8], table: &[i32]) -> i64
-    requires { ⌜ Alike (now gray) (now dots) (length (now table)) ⌝ }
-    requires { ⌜ (length (now gray) ≤ mostCells) × Small mostFiltered (now table) ⌝ }
+    requires { ⌜ Alike (now gray) (now dots) (length (now table)) × Small mostFiltered (now table) ⌝ }
     ensures { λ r. ⌜ r ≡ weighed (now (gray .entry)) (now (dots .entry)) (now (table .entry)) ⌝ }
 {
     let mut sum: i64 = 0;

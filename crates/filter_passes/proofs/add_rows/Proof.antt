@@ -1,5 +1,5 @@
--- `filter_passes::add_rows` meets its contract. The loop's invariant: the rows above y are added. The measure is what is left of
--- the rows.
+-- `filter_passes::add_rows` meets its contract. The loop's invariant: the rows above y are added. The measure is what
+-- is left of the rows.
 use mathlib.Core.Path.{_≡_}
 use Prim.Native.Nat.{_-_, _≤_}
 use native.Mathlib.Omega.{arith}

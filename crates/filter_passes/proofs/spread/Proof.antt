@@ -15,8 +15,10 @@ pass-requires : tie.Need-pass-requires
 pass-requires c κs =
     let s : tie.Start = search in
     let (wide, narrow, fits, small) = s .pre .0 in
-    let (handed, lent) = s .pre .1 in
-    ((wide, fits, record { each = λ q. omega (arith, small .each q) }), (plate-lies _ _ _ narrow handed, widened-lies _ _ _ narrow (fits .near) lent))
+    let (handed, lent) = s .pre .1 in (
+      (wide, fits, record { each = λ q. omega (arith, small .each q) }),
+      (plate-lies _ _ _ narrow handed, widened-lies _ _ _ narrow (fits .near) lent),
+    )
 
 same-length : tie.Need-same-length
 same-length c = search needs

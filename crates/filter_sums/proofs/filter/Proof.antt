@@ -1,5 +1,5 @@
--- `filter_sums::filter` meets its contract: the errors, spread by the first pass and gathered by the second, come to the
--- table.
+-- `filter_sums::filter` meets its contract: the errors, spread by the first pass and gathered by the second, come to
+-- the table.
 use mathlib.Core.Path.{_≡_, sym, _∙_, ap, subst}
 use mathlib.Core.List.{List, _++_}
 use Prim.Native.Nat.{ℕ, _+_, _*_, _≤_}
@@ -13,6 +13,7 @@ use mir.Facts.{fits-le, fits-lit}
 use Rattle.model.specs.Basic.{tabulate}
 use Rattle.model.specs.Error.{errorOf}
 use Rattle.model.proofs.Basic.{table-long, part-whole}
+use Rattle.model.proofs.Halftone.{few-cells}
 use Rattle.invariants.specs.Window.{Small}
 use Rattle.filter_passes.specs.Passes.{spread, mostSpread, plate, widened}
 use Rattle.filter_passes.proofs.Passes.{errors-small, passed-long, passed-small, gathered-is}
@@ -69,6 +70,7 @@ errors-requires c κs =
     record {
       dots-long = f .dots-length ∙ sym (f .gray-length);
       long = f .table-length ∙ sym (f .gray-length);
+      few = omega (arith, few-cells f, f .gray-length);
       bits = f .bits;
     }
 
@@ -148,7 +150,8 @@ gather-requires c κs =
     let f = s (b k) .pre in
     let all-small : Small mostSpread (around (s (b k)))
     = passed-small (a .width) (a .height) (a .radius) (a .psf .now)
-    (plate (a .width)) (widened (a .width) (a .radius)) (e (s (b k))) _ (f .wide .0) (small (b k)) (f .psf-fits .sum-high) in (
+    (plate (a .width)) (widened (a .width) (a .radius)) (e (s (b k))) _ (f .wide .0)
+    (small (b k)) (f .psf-fits .sum-high) in (
       (f .wide .0, f .wide .1, f .psf-fits, subst (Small mostSpread) (sym (part-is k)) all-small),
       (ap length (part-is k) ∙ around-long (s (b k)), table-long _ _ (errors-are (b k))),
     )

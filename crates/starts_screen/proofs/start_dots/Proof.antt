@@ -1,6 +1,6 @@
--- `starts_screen::start_dots` meets its contract: each kind has its own function, and kind 2 leaves the dots as they are.
--- That the table of 256 thresholds follows the bit rule is one computed test of the whole table: `refl` in
--- `order-requires`, where it is lent.
+-- `starts_screen::start_dots` meets its contract: each kind has its own function, and kind 2 leaves the dots as they
+-- are. That the table of 256 thresholds follows the bit rule is one computed test of the whole table: `refl` in `order-
+-- requires`, where it is lent.
 use mathlib.Core.Path.{refl, sym, _∙_, ap}
 use borrow.Author.Needs.{needs}
 use Rattle.model.specs.Basic.{tabulate}
