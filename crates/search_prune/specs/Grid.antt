@@ -17,8 +17,8 @@ unfoldable pub rowLength : (reach : ℕ) → ℕ
 rowLength reach = pick (ltb reach 4) 8 16
 
 -- and how long all of them are
-abbrev pub gridLength : (reach : ℕ) → ℕ
-gridLength reach = (2 * reach + 1) * rowLength reach
+abbrev pub gridSize : (reach : ℕ) → ℕ
+gridSize reach = (2 * reach + 1) * rowLength reach
 
 -- entry q: what the offset (q / length - reach, q % length - reach) is worth, and past the reach a number that no
 -- difference of two table entries outweighs
@@ -31,9 +31,9 @@ worthIn radius c reach q =
 -- all of them laid
 pub record GridFits (radius : ℕ) (c : List ℤ) (reach : ℕ) (grid : List ℤ) : Type 0 where
   pub near : reach ≤ 6
-  pub long : length grid ≡ gridLength reach
+  pub long : length grid ≡ gridSize reach
   pub small : Small mostWorth grid
-  pub at : (q : ℕ) → q < gridLength reach → getD grid q (pos 0) ≡ worthIn radius c reach q
+  pub at : (q : ℕ) → q < gridSize reach → getD grid q (pos 0) ≡ worthIn radius c reach q
 
 module _ (dots : List ℕ) (table grid : List ℤ) (m from at n : ℕ) where
   -- m can be tried with each of the n cells from `from` on, the worths standing from `at` on

@@ -8,7 +8,7 @@ ghost use lib.ListN.{length};
 ghost use Rattle.model.specs.Basic.{squareAt};
 ghost use Rattle.invariants.specs.Window.{Small, HoldsSquare, mostWorth};
 ghost use Rattle.search_runs.specs.Run.{Tabled};
-ghost use Rattle.search_prune.specs.Grid.{rowLength, gridLength, worthIn, GridFits, RunTest, RunClear, RowsClear};
+ghost use Rattle.search_prune.specs.Grid.{rowLength, gridSize, worthIn, GridFits, RunTest, RunClear, RowsClear};
 use filter_window::high;
 use filter_window::low;
 use model::Cell;
@@ -29,9 +29,9 @@ pub fn row_length(reach: usize) -> usize
 }
 
 // how long all of them are
-pub fn grid_length(reach: usize) -> usize
+pub fn grid_size(reach: usize) -> usize
     requires { ⌜ reach ≤ 6 ⌝ }
-    ensures { λ r. ⌜ (r ≡ gridLength reach) × (r ≤ 208) ⌝ }
+    ensures { λ r. ⌜ (r ≡ gridSize reach) × (r ≤ 208) ⌝ }
 {
     (2 * reach + 1) * row_length(reach)
 }
@@ -39,7 +39,7 @@ pub fn grid_length(reach: usize) -> usize
 // what the offset of entry q is worth, or past the reach a number that no difference outweighs
 fn worth_at(radius: usize, c: &[i32], reach: usize, top: i32, q: usize) -> i32
     requires { ⌜ HoldsSquare radius (now c) × (top ≡ squareAt (pos 0) (2 * radius) (now c) (pos 0) (pos 0)) ⌝ }
-    requires { ⌜ (reach ≤ 6) × (q < gridLength reach) ⌝ }
+    requires { ⌜ (reach ≤ 6) × (q < gridSize reach) ⌝ }
     ensures { λ r. ⌜ r ≡ worthIn radius (now (c .entry)) reach q ⌝ }
 {
     let side = row_length(reach);
@@ -60,7 +60,7 @@ fn worth_at(radius: usize, c: &[i32], reach: usize, top: i32, q: usize) -> i32
 
 // what the offsets within reach are worth, in rows
 pub fn lay_worths(radius: usize, c: &[i32], reach: usize, grid: &mut [i32])
-    requires { ⌜ HoldsSquare radius (now c) × (reach ≤ 6) × (length (now grid) ≡ gridLength reach) ⌝ }
+    requires { ⌜ HoldsSquare radius (now c) × (reach ≤ 6) × (length (now grid) ≡ gridSize reach) ⌝ }
     ensures { λ _. ⌜ GridFits radius (now (c .entry)) reach (now (grid .exit)) ⌝ }
 {
     let top = peak(radius, c);
@@ -152,7 +152,7 @@ pub fn may_lower(
 ) -> bool
     requires { ⌜ (at .row < height) × (at .col < width) × (width ≤ 256) × (height ≤ 256) × (reach ≤ 6) ⌝ }
     requires { ⌜ Tabled (now dots) (now table) × (length (now dots) ≡ height * width) ⌝ }
-    requires { ⌜ (length (now grid) ≡ gridLength reach) × Small mostWorth (now grid) ⌝ }
+    requires { ⌜ (length (now grid) ≡ gridSize reach) × Small mostWorth (now grid) ⌝ }
     ensures { λ r. ⌜ (r ≡ false → RowsClear width height reach
         (now (dots .entry)) (now (table .entry)) (now (grid .entry)) (at .row) (at .col)) ⌝ }
 {

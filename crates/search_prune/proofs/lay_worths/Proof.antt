@@ -8,17 +8,17 @@ use mir.Syntax.{w32}
 use mir.Val.{toZ, ofZ}
 use Rattle.model.proofs.Basic.{Filling, fill-none, fill-next, fill-all}
 use Rattle.invariants.proofs.Window.{small-by}
-use Rattle.search_prune.specs.Grid.{gridLength, worthIn}
+use Rattle.search_prune.specs.Grid.{gridSize, worthIn}
 use Rattle.search_prune.proofs.Grid.{worth-in-small}
 use Rattle.search_prune.proofs.lay_worths.Statement.{statement}
 use Rattle.search_prune.proofs.lay_worths.Tie as tie
 
 abbrev Inv-loop : tie.InvT-loop
 Inv-loop radius c reach grid₀ top q₀ grid q =
-    Filling (pos 0) (worthIn radius c reach) (gridLength reach) q grid × (q ≤ gridLength reach)
+    Filling (pos 0) (worthIn radius c reach) (gridSize reach) q grid × (q ≤ gridSize reach)
 
 abbrev μ-loop : tie.MeasureT-loop
-μ-loop radius c reach grid₀ top q₀ grid q = gridLength reach - q
+μ-loop radius c reach grid₀ top q₀ grid q = gridSize reach - q
 
 peak-requires : tie.Need-peak-requires Inv-loop μ-loop
 peak-requires c κs = c .pre .0
@@ -69,7 +69,7 @@ returns c =
       near = s .pre .1;
       long = laid .long;
       small =
-          small-by (gridLength (a .reach)) (worthIn (a .radius) (a .c .now) (a .reach)) (fill-all laid (omega arith))
+          small-by (gridSize (a .reach)) (worthIn (a .radius) (a .c .now) (a .reach)) (fill-all laid (omega arith))
           (worth-in-small (a .radius) (s .pre .0 .small) (a .reach));
       at = λ q h. laid .each q (omega arith);
     }
