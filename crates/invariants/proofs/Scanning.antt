@@ -211,13 +211,15 @@ module _ {m : Measures} {psf gray : List ℕ} {rule : Rule} {p : Reference} {at 
   -- one cell more
   module _ (on : OnPlate m at) {to : Cell} (column : to .col < m .width) where
     pub scanning-next : cellOf (m .width) to ≡ suc (cellOf (m .width) at)
+        → {s : Sweep} → s ≡ visit (targetFor m psf gray) rule dots r (cellOf (m .width) at)
         → {dots′ : List ℕ} {table′ : List ℤ} {r′ : Progress}
-        → (let t = targetFor m psf gray in
-        Leaves t (performed t (visit t rule dots r (cellOf (m .width) at))) r′ dots′ table′)
+        → Leaves (targetFor m psf gray) (performed (targetFor m psf gray) s) r′ dots′ table′
         → Scanning m psf gray rule p to dots′ table′ r′
-    scanning-next e left =
+    scanning-next e here {dots′} {table′} {r′} left =
+        let t = targetFor m psf gray in
+        let visited = subst (λ (s : Sweep). Leaves t (performed t s) r′ dots′ table′) here left in
         record {
-          left = done-at (done-next so left) (sym e) .left;
+          left = done-at (done-next so visited) (sym e) .left;
           column = column;
           so-far = omega (arith, e, cell< (on .row-below) (on .col-below));
         }

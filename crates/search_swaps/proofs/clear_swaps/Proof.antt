@@ -59,7 +59,7 @@ swaps-clear-requires c κs =
       (row, col, wide, omega (arith, run .least .ensures)),
       (
         (judged-tabled (judged s), omega (arith, room run, judged s .plate .halftone .dots-length)),
-        (worths .long, worths-small worths (judged s .kernel .small)),
+        (worths .long, worths-small _ (judged s .kernel .small) worths),
       ),
     )
 

@@ -3,8 +3,9 @@
 use mathlib.Core.Bool.{true}
 use mathlib.Core.Logic.{_⊎_, inl, inr}
 use mathlib.Core.Path.{_≡_, sym, _∙_, ap, subst}
-use Prim.Native.Nat.{ℕ, _*_, _-_, _≤_, _<_}
+use Prim.Native.Nat.{ℕ, _*_, _-_, _^_, _≤_, _<_}
 use native.Mathlib.Omega.{arith}
+use borrow.Author.Needs.{needs}
 use lib.Dec.{lit<}
 use lib.IntN.{ℤ, pos, natAbs}
 use lib.ListN.{length, getD}
@@ -14,12 +15,12 @@ use Rattle.algebra.proofs.Machine.{of-small}
 use Rattle.algebra.proofs.Grid.{cell<}
 use Rattle.model.specs.Error.{Target, targetFor}
 use Rattle.model.specs.Reference.{reference}
-use Rattle.model.specs.Scan.{Sweep, swaps}
+use Rattle.model.specs.Scan.{swaps}
 use Rattle.model.proofs.Scan.{Lawful, swaps-lawful}
 use Rattle.model.proofs.Attempts.{Sound, entry-sound}
 use Rattle.invariants.specs.Partners.{rowOf, columnOf, offsetOf, worthAt, HoldsOffsets, HoldsWorths}
-use Rattle.invariants.specs.Plate.{Judged, Ready, OnPlate, cellOf, Leaves}
-use Rattle.invariants.specs.Trials.{performed, visit, swapsAfter, lowersAt, Failed}
+use Rattle.invariants.specs.Plate.{Judged, Ready, OnPlate, cellOf}
+use Rattle.invariants.specs.Trials.{visit, swapsAfter, lowersAt, Failed}
 use Rattle.invariants.specs.Window.{mostWorth}
 use Rattle.invariants.proofs.Partners.{worths-small}
 use Rattle.invariants.proofs.Plate.{ready-judged, place-fits}
@@ -51,13 +52,13 @@ abbrev μ-loop : tie.MeasureT-loop
     measures .height * measures .width - cellOf (measures .width) at
 
 -- the places, by their names
-abbrev Start : Type 1
+abbrev Start : Type 0
 Start = tie.Start Inv-partners μ-partners Inv-loop μ-loop
 
-abbrev AtCell : Type 1
+abbrev AtCell : Type 0
 AtCell = tie.At-loop Inv-partners μ-partners Inv-loop μ-loop
 
-abbrev OnCell : Type 1
+abbrev OnCell : Type 0
 OnCell = tie.Then1 Inv-partners μ-partners Inv-loop μ-loop
 
 loop-holds : tie.Need-loop-holds Inv-partners μ-partners Inv-loop μ-loop
@@ -155,12 +156,16 @@ module _ (a : tie.Else3 Inv-partners μ-partners Inv-loop μ-loop) where
   short : k < length (s (l v2) .args .codes .now)
   short = omega (arith, a .if3 .left)
 
+  -- the offsets are few, since the slice of their worths is one
+  room : length (s (l v2) .args .codes .now) * 4 < 2 ^ 64
+  room = omega (arith, worths (l v2) .long, s (l v2) .good .1 .1 .1 .1 .1 .0)
+
   -- what the offset is worth, as its local holds it
   worth-is : toZ w32 (ofZ w32 (getD (s (l v2) .args .worths .now) k (pos 0)))
       ≡ worthAt (s (l v2) .args .measures .radius) (s (l v2) .args .c .now) (rowOf code) (columnOf code)
   worth-is =
       of-small w32 (getD (s (l v2) .args .worths .now) k (pos 0))
-      (worths-small (worths (l v2)) (s (l v2) .pre .0 .kernel .small) .each k) (lit< tt) .value
+      (worths-small _ (s (l v2) .pre .0 .kernel .small) (worths (l v2)) .each k) (lit< tt) .value
       ∙ worths (l v2) .at k short
 
 shared-slice-read-lowering : tie.Need-shared-slice-read-lowering Inv-partners μ-partners Inv-loop μ-loop
@@ -168,7 +173,8 @@ shared-slice-read-lowering c =
     let a : tie.Else3 Inv-partners μ-partners Inv-loop μ-loop = search in short a
 
 mul-lowering : tie.Need-mul-lowering Inv-partners μ-partners Inv-loop μ-loop
-mul-lowering c = ?
+mul-lowering c =
+    let a : tie.Else3 Inv-partners μ-partners Inv-loop μ-loop = search in omega (arith, short a, room a)
 
 shared-slice-copy-out-lowering : tie.Need-shared-slice-copy-out-lowering Inv-partners μ-partners Inv-loop μ-loop
 shared-slice-copy-out-lowering c =
@@ -180,7 +186,8 @@ lowering-requires c κs =
     let a : tie.Else3 Inv-partners μ-partners Inv-loop μ-loop = search in (judged (v2 a), worth-is a)
 
 add-k : tie.Need-add-k Inv-partners μ-partners Inv-loop μ-loop
-add-k c = ?
+add-k c =
+    let a : tie.Else3 Inv-partners μ-partners Inv-loop μ-loop = search in omega (arith, short a, room a)
 
 partners-less : tie.Need-partners-less Inv-partners μ-partners Inv-loop μ-loop
 partners-less c =
@@ -213,7 +220,10 @@ module _ (j : tie.Joined3 Inv-partners μ-partners Inv-loop μ-loop) where
   ends =
       either (j .if3 .came)
       (λ w. (λ h. absurd (omega (arith, w .0 .taken, w .1)), w .1))
-      (λ w. ?)
+      (λ w. (
+        subst Takes (sym (w .7)) (λ h. sym (w .5 .ensures) ∙ w .6 .taken),
+        w .7,
+      ))
 
   -- no partner before it is taken, so what is left is all of the cell's attempts
   all : visit (t l3) (swapsAfter (t l3) (s l3 .args .measures .reach) (j .if3 .found)) (l3 .loop .dots)
@@ -246,7 +256,7 @@ loop-again-2 c =
     let j : tie.Joined3 Inv-partners μ-partners Inv-loop μ-loop = search in
     let l = l3 j in
     scanning-next (l .loop .inv) (lawful l) (sound l) (here (v3 j)) (c .next .ensures .1) (c .next .ensures .0)
-    (subst (λ (x : Sweep). Leaves (t l) (performed (t l) x) _ _ _) (all j) (done .swap-cell .ensures))
+    (all j) (done .swap-cell .ensures)
 
 same-length : tie.Need-same-length Inv-partners μ-partners Inv-loop μ-loop
 same-length c =
