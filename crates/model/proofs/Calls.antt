@@ -3,6 +3,7 @@
 --   is-refused, is-done                   the number that the judge found, and the buffer as it was; or the outcome
 --   was-taken, was-done                   a call that answers a value was not refused, and the value is the outcome's
 --   ends-refused, ends-done               the same of a function that ends as a call does
+--   ends-as                               it ends as an outcome that is the call's
 use mathlib.Core.Path.{_≡_, refl, sym, _∙_, ap, subst}
 use Prim.Native.Nat.{ℕ, zero, suc}
 use native.Mathlib.Omega.{arith}
@@ -63,3 +64,7 @@ module _ {A B : Type 0} (b : B) (o : Outcome A B) where
   pub ends-done : (n : ℕ) → n ≡ 0 → {reply : Reply A} {left : B} → Ends o reply left → Ends (unless n b o) reply left
   ends-done zero e h = h
   ends-done (suc n) e h = absurd (omega arith)
+
+-- a function that ends as that outcome, which is the call's
+pub ends-as : {A B : Type 0} {o v : Outcome A B} → o ≡ v → Ends o (v .reply) (v .left)
+ends-as e = record { reply-is = sym (ap (λ r. r .reply) e); left-is = sym (ap (λ r. r .left) e) }

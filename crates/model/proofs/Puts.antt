@@ -1,6 +1,7 @@
 -- How a text is put into an output (`Puts`), and what is left of it to put.
---   puts-none, puts-byte, puts-then       nothing, one byte, one text after another
---   puts-as                               the same text in other words
+--   puts-none, puts-byte                  nothing, and one byte
+--   puts-then, puts-rest                  one text after another, and bytes after a text
+--   front-length, puts-as                 a text at the front; the same text in other words
 --   left-all, left-fits, left-next        of a text that a loop puts part by part: all of it; room for a part; after it
 --   left-last, left-none                  its last part, and nothing left
 use mathlib.Core.Path.{_≡_, refl, sym, _∙_, ap, ap₂, subst}
@@ -14,6 +15,10 @@ use Rattle.model.proofs.Tables.{sets-append}
 
 pub puts-none : {out : List ℕ} {at : ℕ} → Puts [] out out at at
 puts-none = record { end-is = omega arith; bytes-are = refl }
+
+-- at the front its length is answered
+pub front-length : {text out put : List ℕ} {end : ℕ} → Puts text out put 0 end → end ≡ length text
+front-length p = omega (arith, p .end-is)
 
 pub puts-byte : {out : List ℕ} {at : ℕ} (b : ℕ) → Puts (b ∷ []) out (set out at b) at (at + 1)
 puts-byte b = record { end-is = refl; bytes-are = refl }
@@ -30,6 +35,13 @@ puts-then {text} {more} {out} {at} p q = record {
       ∙ ap₂ (λ o i. sets o i more) (p .bytes-are) (p .end-is)
       ∙ sym (sets-append text more out at);
 }
+
+-- and bytes after it
+pub puts-rest : {text out put last : List ℕ} {at next : ℕ} (rest : List ℕ) → Puts text out put at next
+    → last ≡ sets put next rest → last ≡ sets out at (text ++ rest)
+puts-rest {put} {last} {next} rest p e =
+    let q : Puts rest put last next (next + length rest) = record { end-is = refl; bytes-are = e } in
+    puts-then p q .bytes-are
 
 -- a text whose first part is that
 pub record Opens (text part more : List ℕ) : Type 0 where

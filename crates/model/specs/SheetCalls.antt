@@ -31,15 +31,18 @@ pub record SheetBuffers : Type 0 where
   pub gray : List ℕ
   pub dots : List ℕ
 
--- a sheet that was read stands at the front of the buffers; one that was refused leaves them
+abbrev pub sheetBuffers : (psf gray dots : List ℕ) → SheetBuffers
+sheetBuffers psf gray dots = record { psf = psf; gray = gray; dots = dots }
+
+-- a sheet at the front of the buffers; what lies past it remains
+abbrev pub stored : Sheet → SheetBuffers → SheetBuffers
+stored s b = sheetBuffers (sets (b .psf) 0 (s .psf)) (sets (b .gray) 0 (s .gray)) (sets (b .dots) 0 (s .dots))
+
+-- a sheet that was read is stored; one that was refused leaves the buffers
 abbrev pub outcomeOf : Read → (psf gray dots : List ℕ) → Outcome Measures SheetBuffers
 outcomeOf r psf gray dots = record {
   reply = pick (eqb (r .refusal) 0) (result (r .sheet .measures)) (refused (r .refusal) (r .at));
-  left = record {
-    psf = sets psf 0 (r .sheet .psf);
-    gray = sets gray 0 (r .sheet .gray);
-    dots = sets dots 0 (r .sheet .dots);
-  };
+  left = stored (r .sheet) (sheetBuffers psf gray dots);
 }
 
 unfoldable pub readCall : (bytes psf gray dots : List ℕ) → Outcome Measures SheetBuffers

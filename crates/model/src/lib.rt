@@ -9,6 +9,12 @@ pub const MOST_SQUARED: i64 = 4468483974758400;
 // The largest count of a ledger: 2^44.
 pub const MOST_COUNT: u64 = 17592186044416;
 
+// The limit of a number in a picture's header, which stands for it and all above.
+pub const MOST_VALUE: usize = 65536;
+
+// The most bytes that the program prints.
+pub const MOST_PRINTED: usize = 40960;
+
 // Document 01's measures: the size of the plate, the radius of the psf, the reach of a swap and the kind of start.
 pub struct Measures {
     pub width: usize,

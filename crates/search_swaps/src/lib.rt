@@ -110,7 +110,15 @@ fn first_trial(
         × Failed (targetFor measures (now (psf .entry)) (now (gray .entry))) (measures .reach) (now (dots .entry))
         (cellOf (measures .width) at) r ⌝ }
 {
-    if may_lower(measures.width, measures.height, measures.reach, grid, dots, table, at) {
+    if may_lower(
+        measures.width,
+        measures.height,
+        measures.reach,
+        grid,
+        dots,
+        table,
+        at,
+    ) {
         return 0;
     }
     codes.len()
@@ -177,7 +185,18 @@ fn swap_by(
     let mut at = Cell { row: 0, col: 0 };
     let mut tested: usize = 0;
     while at.row < measures.height {
-        let n = clear_swaps(measures, psf, gray, c, codes, worths, dots, table, at, tested);
+        let n = clear_swaps(
+            measures,
+            psf,
+            gray,
+            c,
+            codes,
+            worths,
+            dots,
+            table,
+            at,
+            tested,
+        );
         if 0 < n {
             at = ahead(measures.width, at, n);
         } else {
@@ -192,7 +211,18 @@ fn swap_by(
                 }
                 k += 1;
             };
-            progress = swap_cell(measures, psf, gray, c, codes, dots, table, progress, at, found);
+            progress = swap_cell(
+                measures,
+                psf,
+                gray,
+                c,
+                codes,
+                dots,
+                table,
+                progress,
+                at,
+                found,
+            );
             at = next(measures.width, at);
         }
     }

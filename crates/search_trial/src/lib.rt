@@ -36,7 +36,12 @@ fn weigh_toggle(
     ensures { λ r. ⌜ Weighs (targetFor measures (now (psf .entry)) (now (gray .entry))) (now (dots .entry))
         (toggleAt measures (now (dots .entry)) at) r ⌝ }
 {
-    toggle_change(peak(measures.radius, c), dots, table, index(measures.width, at))
+    toggle_change(
+        peak(measures.radius, c),
+        dots,
+        table,
+        index(measures.width, at),
+    )
 }
 
 // what a swap of two cells, their dots unlike, would add to it
