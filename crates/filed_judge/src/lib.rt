@@ -4,9 +4,10 @@ ghost use Prim.Native.Nat.{_≤_};
 ghost use lib.IntN.{pos, _+ℤ_, _-ℤ_};
 ghost use lib.ListN.{length};
 ghost use Rattle.model.specs.Basic.{AtMost};
-ghost use Rattle.model.specs.Error.{targetFor, filteredErrors, squaredError};
+ghost use Rattle.model.specs.Error.{targetFor, filteredErrors, squaredError, mostCells};
 ghost use Rattle.model.specs.Ledger.{countOf, dotTotal};
 ghost use Rattle.model.specs.Refusal.{startRefusal, PlateFits};
+ghost use Rattle.model.specs.Sheet.{sheetWith};
 ghost use Rattle.model.specs.Filed.{mostFigure, figuresIn};
 ghost use Rattle.model.specs.FiledCalls.{filedStats, ledgerFits, rests, restingOf, verdictOf};
 use filed_rest::at_rest;
@@ -23,7 +24,7 @@ use slices::sum;
 
 // the dots at the start: the dots on the plate - on + off; where that is below 0, the greatest number, which 21 refuses
 fn start_dots(count: usize, on: u64, off: u64) -> u64
-    requires { ⌜ (count ≤ 65536) × (on ≤ mostFigure) × (off ≤ mostFigure) ⌝ }
+    requires { ⌜ (count ≤ mostCells) × (on ≤ mostFigure) × (off ≤ mostFigure) ⌝ }
     ensures { λ r. ⌜ r ≡ countOf (pos count -ℤ pos on +ℤ pos off) ⌝ }
 {
     let most = count as u64 + off;
@@ -35,7 +36,7 @@ fn start_dots(count: usize, on: u64, off: u64) -> u64
 
 // the ledger as filed
 fn filed_stats(dots: &[u8], count: usize, f: FiledFigures) -> Stats
-    requires { ⌜ (count ≡ dotTotal (now dots)) × (count ≤ 65536) × AtMost mostFigure (figuresIn f) ⌝ }
+    requires { ⌜ (count ≡ dotTotal (now dots)) × (count ≤ mostCells) × AtMost mostFigure (figuresIn f) ⌝ }
     ensures { λ r. ⌜ r ≡ filedStats (now (dots .entry)) f ⌝ }
 {
     Stats {
@@ -107,12 +108,8 @@ pub fn judge_plate(
 ) -> Verdict
     requires { ⌜ PlateFits m (now psf) (now gray) (now dots) (length (now table)) ⌝ }
     requires { ⌜ AtMost mostFigure (figuresIn f) ⌝ }
-    ensures { λ r. ⌜ r ≡ verdictOf (record {
-      measures = m;
-      psf = now (psf .entry);
-      gray = now (gray .entry);
-      dots = now (dots .entry);
-    }) f ⌝ }
+    ensures { λ r. ⌜ r ≡ verdictOf
+        (sheetWith m (now (psf .entry)) (now (gray .entry)) (now (dots .entry))) f ⌝ }
     ensures { λ _. ⌜ now (table .exit)
         ≡ filteredErrors (targetFor m (now (psf .entry)) (now (gray .entry))) (now (dots .entry)) ⌝ }
 {

@@ -51,8 +51,8 @@ module _ (m : Measures) (psf gray dots : List ℕ) {s : Stats} (fresh : s ≡ fr
         state =
             subst (λ (X : Type 0). X) (λ i. StateFits t dots (sym e i) (sym fresh i))
             (fresh-fits t dots (h .bits) (h .dots-length)
-            (squared-least (m .width) (m .height) (m .radius) psf gray dots h)
-            (squared-most (m .width) (m .height) (m .radius) psf gray dots h bytes));
+            (squared-least h)
+            (squared-most h bytes));
       }
 
   -- what the toggle scan leaves, where it accepts nothing

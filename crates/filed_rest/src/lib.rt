@@ -2,12 +2,13 @@
 ghost use mathlib.Core.Path.{_≡_};
 ghost use Prim.Native.Nat.{_≤_};
 ghost use lib.ListN.{length};
-ghost use Rattle.model.specs.Error.{targetFor, filteredErrors, squaredError};
+ghost use Rattle.model.specs.Error.{targetFor, filteredErrors, squaredError, mostCells};
 ghost use Rattle.model.specs.Ledger.{freshStats};
 ghost use Rattle.model.specs.Refusal.{PlateFits};
 ghost use Rattle.model.specs.FiledCalls.{rests};
 use filter_correlate::kernel;
 use model::Figures;
+use model::MOST_CELLS;
 use model::Measures;
 use model::Stats;
 use search_swaps::swap_all;
@@ -18,7 +19,7 @@ use slices::sum;
 
 // a fresh ledger of dots with that squared error
 fn fresh(m: Measures, psf: &[u8], gray: &[u8], dots: &[u8], squared: i64) -> Stats
-    requires { ⌜ length (now dots) ≤ 65536 ⌝ }
+    requires { ⌜ length (now dots) ≤ mostCells ⌝ }
     requires { ⌜ squared ≡ squaredError (targetFor m (now psf) (now gray)) (now dots) ⌝ }
     ensures { λ r. ⌜ r ≡ freshStats (targetFor m (now (psf .entry)) (now (gray .entry))) (now (dots .entry)) ⌝ }
 {
@@ -74,8 +75,8 @@ pub fn at_rest(
     ensures { λ r. ⌜ r ≡ rests (targetFor m (now (psf .entry)) (now (gray .entry))) (m .reach) (now (dots .entry)) ⌝ }
 {
     let n = dots.len();
-    let mut some_dots = [0u8; 65536];
-    let mut some_table = [0i32; 65536];
+    let mut some_dots = [0u8; MOST_CELLS];
+    let mut some_table = [0i32; MOST_CELLS];
     copy_bytes(dots, &mut some_dots[..n]);
     copy_numbers(table, &mut some_table[..n]);
     scans_clear(

@@ -10,7 +10,8 @@ use model::SquaredError;
 
 // The (4r + 1)² values of the autocorrelation of a psf of radius r, row by row, into `out`.
 pub fn autocorrelation(radius: usize, psf: &[u8], out: &mut [i32]) -> Filled
-    ensures { λ r. ⌜ Ends (autocorrelationCall radius (now (psf .entry)) (now (out .entry))) (filled r) (now (out .exit)) ⌝ }
+    ensures { λ r. ⌜ Ends (autocorrelationCall radius (now (psf .entry)) (now (out .entry)))
+        (filled r) (now (out .exit)) ⌝ }
 {
     let number = judge_autocorrelation(radius, psf, out.len());
     if number != 0 {

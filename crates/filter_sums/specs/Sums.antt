@@ -1,17 +1,22 @@
 -- What the sums over the cells of a plate are handed, and what they come to.
 use mathlib.Core.List.{List}
 use mathlib.Core.Path.{_≡_}
-use Prim.Native.Nat.{ℕ}
+use Prim.Native.Nat.{ℕ, _≤_}
 use lib.IntN.{ℤ, pos, _*ℤ_}
 use lib.ListN.{length, getD}
 use Rattle.algebra.specs.Sum.{sumTo}
 use Rattle.model.specs.Basic.{tabulate, AtMost}
-use Rattle.model.specs.Error.{errorOf}
+use Rattle.model.specs.Error.{errorOf, mostCells}
 
--- gray, dots and another slice of that length, all as long as one another
+-- the most cells of a plate widened by r on each side: 262²
+abbrev pub mostWidened : ℕ
+mostWidened = 68644
+
+-- gray, dots and another slice of that length, all as long as one another and no longer than the largest plate
 pub record Alike (gray dots : List ℕ) (n : ℕ) : Type 0 where
   pub dots-long : length dots ≡ length gray
   pub long : n ≡ length gray
+  pub few : length gray ≤ mostCells
   pub bits : AtMost 1 dots
 
 -- the error of each cell

@@ -10,6 +10,9 @@ ghost use Rattle.filter_sums.specs.Sums.{Alike, errorsOf, weighed};
 use filter_passes::gather;
 use filter_passes::spread;
 
+// the most cells of a plate widened by r on each side: 262²
+const MOST_WIDENED: usize = 68644;
+
 // the error of a cell: 255 for a dot, less the gray
 fn error_at(gray: &[u8], dots: &[u8], n: usize) -> i32
     requires { ⌜ (n < length (now gray)) × (n < length (now dots)) × (getD (now dots) n 0 ≤ 1) ⌝ }
@@ -33,8 +36,7 @@ fn errors(gray: &[u8], dots: &[u8], out: &mut [i32])
 
 // Σ e(m) × T(m) over the cells, the T(m) being in the table
 fn weigh(gray: &[u8], dots: &[u8], table: &[i32]) -> i64
-    requires { ⌜ Alike (now gray) (now dots) (length (now table)) ⌝ }
-    requires { ⌜ (length (now gray) ≤ mostCells) × Small mostFiltered (now table) ⌝ }
+    requires { ⌜ Alike (now gray) (now dots) (length (now table)) × Small mostFiltered (now table) ⌝ }
     ensures { λ r. ⌜ r ≡ weighed (now (gray .entry)) (now (dots .entry)) (now (table .entry)) ⌝ }
 {
     let mut sum: i64 = 0;
@@ -60,7 +62,7 @@ pub fn filter(
     ensures { λ _. let t = targetOf width height radius (now (psf .entry)) (now (gray .entry)) in
         ⌜ now (table .exit) ≡ filteredErrors t (now (dots .entry)) ⌝ }
 {
-    let mut g = [0i32; 68644];
+    let mut g = [0i32; MOST_WIDENED];
     let n = (height + 2 * radius) * (width + 2 * radius);
     errors(gray, dots, table);
     spread(width, height, radius, psf, table, &mut g[..n]);

@@ -40,6 +40,10 @@ use Rattle.invariants.specs.Plate.{Judged, Ready, OnPlate, cellOf, toggl
 use Rattle.invariants.specs.Plate.{mostChange, Weighs, Countable, Leaves, accepting, replied}
 use Rattle.invariants.proofs.Window.{square-small, store-table, table-small}
 
+-- what a slice of bytes is known to hold
+pub slice-bytes : {l : List ℕ} → ((i : ℕ) → getD l i 0 < 256) → AtMost 255 l
+slice-bytes h = record { each = λ i. omega (arith, h i) }
+
 -- ---- a judged plate
 module _ {m : Measures} {psf gray : List ℕ} {c : List ℤ} {dots : List ℕ} {table : List ℤ} where
   pub ready-judged : {s : Stats} → Ready m psf gray c dots table s → Judged m psf gray c dots table

@@ -66,25 +66,27 @@ module _ (t : Target) (dots : List ℕ) (r : Progress) (v : Move) {s : Sweep} (d
     (entry : r .stats ≡ statsOf t (reference dots (r .stats)))
     (taken : lowers t dots v ≡ true → s ≡ more (sweepOf dots r) v)
     (passed : lowers t dots v ≡ false → s ≡ sweepOf dots r) where
-  pub attempt-advances : (reply : Reply Tried) → Leaves t (replied (attempt t (reference dots (r .stats)) v)) reply dots′ table′
-      → Leaves t (performed t s) (advanced r reply) dots′ table′
+  pub attempt-advances : (reply : Reply Tried) {r′ : Progress} → r′ ≡ advanced r reply
+      → Leaves t (replied (attempt t (reference dots (r .stats)) v)) reply dots′ table′
+      → Leaves t (performed t s) r′ dots′ table′
   unfolding progressOf
-  attempt-advances reply =
+  attempt-advances reply {r′} is =
       attempt-by t (reference dots (r .stats)) v
-      (λ done. Leaves t (replied done) reply dots′ table′ → Leaves t (performed t s) (advanced r reply) dots′ table′)
+      (λ done. Leaves t (replied done) reply dots′ table′ → Leaves t (performed t s) r′ dots′ table′)
       (λ e left.
-      subst (λ (x : Sweep). Leaves t (performed t x) (advanced r reply) dots′ table′) (sym (taken e))
+      subst (λ (x : Sweep). Leaves t (performed t x) r′ dots′ table′) (sym (taken e))
       (record {
         answer-is =
-            ap (advanced r) (left .answer-is)
+            is
+            ∙ ap (advanced r) (left .answer-is)
             ∙ (λ i. record { stats = statsOf t (accept (reference dots (r .stats)) v); changes = add-one (r .changes) i });
         dots-are = left .dots-are;
         table-is = left .table-is;
       }))
       (λ e left.
-      subst (λ (x : Sweep). Leaves t (performed t x) (advanced r reply) dots′ table′) (sym (passed e))
+      subst (λ (x : Sweep). Leaves t (performed t x) r′ dots′ table′) (sym (passed e))
       (record {
-        answer-is = ap (advanced r) (left .answer-is) ∙ (λ i. record { stats = entry i; changes = r .changes });
+        answer-is = is ∙ ap (advanced r) (left .answer-is) ∙ (λ i. record { stats = entry i; changes = r .changes });
         dots-are = left .dots-are;
         table-is = left .table-is;
       }))
@@ -209,13 +211,15 @@ module _ {m : Measures} {psf gray : List ℕ} {rule : Rule} {p : Reference} {at 
   -- one cell more
   module _ (on : OnPlate m at) {to : Cell} (column : to .col < m .width) where
     pub scanning-next : cellOf (m .width) to ≡ suc (cellOf (m .width) at)
+        → {s : Sweep} → s ≡ visit (targetFor m psf gray) rule dots r (cellOf (m .width) at)
         → {dots′ : List ℕ} {table′ : List ℤ} {r′ : Progress}
-        → (let t = targetFor m psf gray in
-        Leaves t (performed t (visit t rule dots r (cellOf (m .width) at))) r′ dots′ table′)
+        → Leaves (targetFor m psf gray) (performed (targetFor m psf gray) s) r′ dots′ table′
         → Scanning m psf gray rule p to dots′ table′ r′
-    scanning-next e left =
+    scanning-next e here {dots′} {table′} {r′} left =
+        let t = targetFor m psf gray in
+        let visited = subst (λ (s : Sweep). Leaves t (performed t s) r′ dots′ table′) here left in
         record {
-          left = done-at (done-next so left) (sym e) .left;
+          left = done-at (done-next so visited) (sym e) .left;
           column = column;
           so-far = omega (arith, e, cell< (on .row-below) (on .col-below));
         }

@@ -32,7 +32,7 @@ pub fn first(a: u32, b: u32) -> u32
     b
 }
 
-// 1 and 2
+// 1 and 2: a size outside 1 to 256, a radius above 3
 pub fn judge_measures(width: usize, height: usize, radius: usize) -> u32
     ensures { λ r. ⌜ r ≡ firstOf (badSize width height ∷ badRadius radius ∷ []) ⌝ }
 {
@@ -54,7 +54,7 @@ pub fn judge_measures(width: usize, height: usize, radius: usize) -> u32
     0
 }
 
-// 3 and 4
+// 3 and 4: a reach above 6, a start kind above 2
 fn judge_options(reach: usize, kind: usize) -> u32
     ensures { λ r. ⌜ r ≡ firstOf (badReach reach ∷ badKind kind ∷ []) ⌝ }
 {
@@ -67,7 +67,7 @@ fn judge_options(reach: usize, kind: usize) -> u32
     0
 }
 
-// 1 to 4
+// 1 to 4, of all five measures
 pub fn judge_all_measures(m: Measures) -> u32
     ensures { λ r. ⌜ r ≡ firstOf (badMeasures m) ⌝ }
 {
@@ -131,7 +131,7 @@ pub fn judge_slices(
     0
 }
 
-// 7
+// 7: a dot byte above 1
 pub fn judge_dots(dots: &[u8]) -> u32
     ensures { λ r. ⌜ r ≡ firstOf (badDot (now (dots .entry)) ∷ []) ⌝ }
 {

@@ -13,7 +13,7 @@ use Rattle.model.specs.declared.Writing.the-variants as Writing
 use Rattle.model.specs.Basic.{pick}
 use Rattle.model.specs.Refusal.{writeRefusal}
 use Rattle.model.specs.Calls.{Reply, result, refused, Outcome, unless}
-use Rattle.model.specs.Sheet.{Sheet, sheetText}
+use Rattle.model.specs.Sheet.{Sheet, sheetWith, sheetText}
 use Rattle.model.specs.Format.{Read, readSheet}
 
 -- the number and the values of each case of the answers in the code
@@ -55,7 +55,7 @@ withGiven m =
     record { width = m .width; height = m .height; radius = m .radius; reach = m .reach; start = 2 }
 
 abbrev pub writtenSheet : Measures → (psf gray dots : List ℕ) → Sheet
-writtenSheet m psf gray dots = record { measures = withGiven m; psf = psf; gray = gray; dots = dots }
+writtenSheet m psf gray dots = sheetWith (withGiven m) psf gray dots
 
 -- the text where it fits, else 12 at the length of the output
 abbrev pub writeText : (text out : List ℕ) → Outcome ℕ (List ℕ)

@@ -1,7 +1,8 @@
 -- Rows in which every trial fails hold no partner that lowers E: what the quick tests show of the trials.
---   offset-near  the offsets that the code holds are within reach
---   none-lowers  of one cell, in the rows around it
---   run-failed   of a run of cells: every trial at each of them fails
+--   judged-tabled  the table of a judged plate is what they ask for
+--   offset-near    the offsets that the code holds are within reach
+--   none-lowers    of one cell, in the rows around it
+--   run-failed     of a run of cells: every trial at each of them fails
 use mathlib.Core.Bool.{Bool, true, false}
 use mathlib.Core.List.{List, [], _∷_}
 use mathlib.Core.Path.{_≡_, refl, sym, _∙_, subst}
@@ -20,12 +21,20 @@ use Rattle.model.specs.Partners.{lands, Within}
 use Rattle.invariants.specs.Partners.{biased, rowOf, columnOf, worthAt, HoldsOffsets, HoldsWorths}
 use Rattle.invariants.specs.Plate.{Judged, OnPlate, cellOf}
 use Rattle.invariants.specs.Trials.{lowersAt, Failed}
+use Rattle.invariants.proofs.Plate.{judged-small}
 use Rattle.invariants.proofs.Trials.{failed-all}
 use Rattle.model.proofs.Partners.{entry-within}
 use Rattle.search_prune.specs.Grid.{rowLength, worthIn, GridFits, RowsClear}
-use Rattle.search_prune.proofs.Grid.{row-wide}
-use Rattle.search_runs.specs.Run.{Fails, CellsClear}
+use Rattle.search_prune.proofs.Grid.{row-length-fits}
+use Rattle.search_runs.specs.Run.{Tabled, Fails, CellsClear}
 use Rattle.search_swaps.proofs.Partner.{landed, stands, trial-is}
+
+-- the table of a judged plate is what a quick test asks for
+pub judged-tabled : {m : Measures} {psf gray : List ℕ} {c : List ℤ} {dots : List ℕ} {table : List ℤ}
+    → Judged m psf gray c dots table → Tabled dots table
+judged-tabled j =
+    let f = j .plate .halftone in
+    record { long = f .table-length ∙ sym (f .dots-length); small = judged-small j }
 
 -- a coordinate within reach, 6 added
 near-by : (q d : ℕ) → natAbs (pos d -ℤ pos 6) ≤ q → (6 ≤ d + q) × (d ≤ 6 + q)
@@ -55,7 +64,7 @@ entry-is r c reach grid g down right y x =
     let side = rowLength reach in
     let j = down + reach - 6 in
     let i = right + reach - 6 in
-    let short : i < side = omega (arith, row-wide (g .near)) in
+    let short : i < side = omega (arith, row-length-fits (g .near)) in
     let low : j < 2 * reach + 1 = omega arith in
     let row : j + 6 - reach ≡ down = omega (arith, g .near) in
     let column : i + 6 - reach ≡ right = omega (arith, g .near) in
@@ -96,7 +105,7 @@ module _ {m : Measures} {psf gray : List ℕ} {c : List ℤ} {dots : List ℕ} {
       let column-is : at .col + (right + reach - 6) - reach ≡ at .col + right - 6 = omega arith in
       rw (row-is, column-is, entry-is (m .radius) c reach grid g down right y x) at
       (clear .each (down + reach - 6) (right + reach - 6)
-      (omega arith) (omega (arith, row-wide (g .near))) (omega arith) (omega arith) (omega arith)))
+      (omega arith) (omega (arith, row-length-fits (g .near))) (omega arith) (omega arith) (omega arith)))
 
 -- ---- in a run of cells where every trial fails: no partner is taken at any
 pub run-failed : {m : Measures} {psf gray : List ℕ} {c : List ℤ} {dots : List ℕ} {table : List ℤ}
@@ -109,7 +118,7 @@ run-failed {m} {psf} {gray} {dots} j {at} on {reach} {codes} held worth short cl
     (failed-all (targetFor m psf gray) held dots (cellAt (m .width) (at .row) (at .col + i)) (λ k h.
     by-table j (record { row-below = on .row-below; col-below = omega arith }) (rowOf (getD codes k 0))
     (columnOf (getD codes k 0))
-    (λ top first bottom. rw (there, worth .at k h) at (clear .each k i h l top first))))
+    (λ top first bottom. rw (there, worth .at k h) at (clear .at k h .each i l top first))))
   where
     there : cellOf (m .width) at + i ≡ cellAt (m .width) (at .row) (at .col + i)
     there = omega arith

@@ -21,7 +21,7 @@ use search_partners::ahead;
 use search_partners::next;
 use search_partners::partner_cell;
 use search_partners::weigh_offsets;
-use search_prune::grid_length;
+use search_prune::grid_size;
 use search_prune::lay_worths;
 use search_prune::may_lower;
 use search_runs::swaps_clear;
@@ -249,7 +249,7 @@ pub fn swap_all(
     let mut grid = [0i32; 208];
     let count = within_reach(measures.reach, &mut codes);
     weigh_offsets(measures.radius, c, &codes[..count], &mut worths[..count]);
-    let n = grid_length(measures.reach);
+    let n = grid_size(measures.reach);
     lay_worths(measures.radius, c, measures.reach, &mut grid[..n]);
     swap_by(
         measures,

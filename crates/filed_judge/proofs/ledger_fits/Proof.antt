@@ -9,14 +9,14 @@ use mir.Syntax.{w64}
 use mir.Val.{toZ, ofZ}
 use Rattle.algebra.proofs.Machine.{read-back}
 use Rattle.model.specs.Basic.{AtMost}
-use Rattle.model.specs.Error.{targetFor, mostSquared, squaredError}
+use Rattle.model.specs.Error.{targetFor, mostSquared, squaredError, mostCells}
 use Rattle.model.proofs.Halftone.{few-cells, squared-least, squared-most}
 use Rattle.model.proofs.State.{total≤}
 use Rattle.filed_judge.proofs.Verdicts.{ledger-by}
 use Rattle.filed_judge.proofs.ledger_fits.Statement.{statement}
 use Rattle.filed_judge.proofs.ledger_fits.Tie as tie
 
-few : (s : tie.Start) → length (s .args .dots .now) ≤ 65536
+few : (s : tie.Start) → length (s .args .dots .now) ≤ mostCells
 few s = omega (arith, few-cells (s .pre .0 .halftone), s .pre .0 .halftone .dots-length)
 
 -- the squared error as its local holds it
@@ -37,7 +37,7 @@ module _ (c : tie.After-sum) where
   bytes : AtMost 255 (s .args .gray .now)
   bytes = record { each = λ i. omega (arith, c .before .before .shared-slice-known2 .given i) }
 
-  counted-few : c .sum .result ≤ 65536
+  counted-few : c .sum .result ≤ mostCells
   counted-few =
       omega (arith, few s, c .sum .ensures, total≤ 1 (s .args .dots .now) (s .pre .0 .halftone .bits))
 

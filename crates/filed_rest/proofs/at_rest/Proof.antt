@@ -9,7 +9,7 @@ use lib.Seq.{take-at}
 use mir.Syntax.{w64}
 use mir.Val.{toZ, ofZ}
 use Rattle.algebra.proofs.Machine.{read-back}
-use Rattle.model.specs.Error.{targetFor, filteredErrors, squaredError}
+use Rattle.model.specs.Error.{targetFor, filteredErrors, squaredError, mostCells}
 use Rattle.model.specs.Refusal.{PlateFits}
 use Rattle.model.specs.FiledCalls.{rests}
 use Rattle.model.proofs.Basic.{part-whole}
@@ -24,7 +24,7 @@ module _ (s : tie.Start) where
   abbrev table : List ℤ
   table = s .args .table .now
 
-  few : length dots ≤ 65536
+  few : length dots ≤ mostCells
   few = omega (arith, few-cells (s .pre .0 .halftone), s .pre .0 .halftone .dots-length)
 
   alike : length table ≡ length dots
@@ -46,43 +46,43 @@ module _ (s : tie.Start) where
 array-borrow-prefix-some-dots : tie.Need-array-borrow-prefix-some-dots
 array-borrow-prefix-some-dots c = few search
 
-slice-aggregate-copy-dots : tie.Need-slice-aggregate-copy-dots
-slice-aggregate-copy-dots c = part-whole _ _ (few search)
+slice-aggregate-copy-bytes : tie.Need-slice-aggregate-copy-bytes
+slice-aggregate-copy-bytes c = part-whole _ _ (few search)
 
-copy-dots-requires : tie.Need-copy-dots-requires
-copy-dots-requires c κs = sym (part-whole _ _ (few search))
+copy-bytes-requires : tie.Need-copy-bytes-requires
+copy-bytes-requires c κs = sym (part-whole _ _ (few search))
 
 array-borrow-prefix-some-table : tie.Need-array-borrow-prefix-some-table
 array-borrow-prefix-some-table c = few search
 
-slice-aggregate-copy-table : tie.Need-slice-aggregate-copy-table
-slice-aggregate-copy-table c = part-whole _ _ (few search)
+slice-aggregate-copy-numbers : tie.Need-slice-aggregate-copy-numbers
+slice-aggregate-copy-numbers c = part-whole _ _ (few search)
 
-copy-table-requires : tie.Need-copy-table-requires
-copy-table-requires c κs =
+copy-numbers-requires : tie.Need-copy-numbers-requires
+copy-numbers-requires c κs =
     let s : tie.Start = search in
     sym (part-whole _ _ (few s)) ∙ sym (alike s)
 
 -- once both are copied
-module _ (c : tie.After-copy-table) where
-  abbrev k : tie.After-copy-dots
+module _ (c : tie.After-copy-numbers) where
+  abbrev k : tie.After-copy-bytes
   k = search
 
   abbrev s : tie.Start
   s = search
 
-  dots-long : length (k .copy-dots .last .1 .0) ≡ length (dots s)
-  dots-long = ap length (k .copy-dots .ensures)
+  dots-long : length (k .copy-bytes .last .1 .0) ≡ length (dots s)
+  dots-long = ap length (k .copy-bytes .ensures)
 
-  table-long : length (c .copy-table .last .1 .0) ≡ length (dots s)
-  table-long = ap length (c .copy-table .ensures) ∙ alike s
+  table-long : length (c .copy-numbers .last .1 .0) ≡ length (dots s)
+  table-long = ap length (c .copy-numbers .ensures) ∙ alike s
 
   -- the parts that are lent on
-  dots-part : (l : List ℕ) → take (length (dots s)) (k .copy-dots .last .1 .0 ++ l) ≡ dots s
-  dots-part l = take-at (k .copy-dots .last .1 .0) l (length (dots s)) dots-long ∙ k .copy-dots .ensures
+  dots-part : (l : List ℕ) → take (length (dots s)) (k .copy-bytes .last .1 .0 ++ l) ≡ dots s
+  dots-part l = take-at (k .copy-bytes .last .1 .0) l (length (dots s)) dots-long ∙ k .copy-bytes .ensures
 
-  table-part : (l : List ℤ) → take (length (dots s)) (c .copy-table .last .1 .0 ++ l) ≡ table s
-  table-part l = take-at (c .copy-table .last .1 .0) l (length (dots s)) table-long ∙ c .copy-table .ensures
+  table-part : (l : List ℤ) → take (length (dots s)) (c .copy-numbers .last .1 .0 ++ l) ≡ table s
+  table-part l = take-at (c .copy-numbers .last .1 .0) l (length (dots s)) table-long ∙ c .copy-numbers .ensures
 
 array-borrow-prefix-some-dots-2 : tie.Need-array-borrow-prefix-some-dots-2
 array-borrow-prefix-some-dots-2 c = simp length-append (omega (arith, dots-long (c .before)))
@@ -99,13 +99,13 @@ slice-aggregate-scans-clear-2 c =
 
 scans-clear-requires : tie.Need-scans-clear-requires
 scans-clear-requires c κs =
-    let b : tie.After-copy-table = search in
+    let b : tie.After-copy-numbers = search in
     asked (s b) (dots-part b _) (table-part b _)
 
 returns : tie.Need-returns
 returns c =
     let k : tie.After-scans-clear = search in
-    let b : tie.After-copy-table = search in
+    let b : tie.After-copy-numbers = search in
     let m = s b .args .m in
     k .scans-clear .ensures
     ∙ ap (rests (targetFor m (s b .args .psf .now) (s b .args .gray .now)) (m .reach)) (dots-part b _)
@@ -115,11 +115,11 @@ at-rest-spec =
     tie.close
     (tie.spec
     array-borrow-prefix-some-dots
-    slice-aggregate-copy-dots
-    copy-dots-requires
+    slice-aggregate-copy-bytes
+    copy-bytes-requires
     array-borrow-prefix-some-table
-    slice-aggregate-copy-table
-    copy-table-requires
+    slice-aggregate-copy-numbers
+    copy-numbers-requires
     array-borrow-prefix-some-dots-2
     slice-aggregate-scans-clear
     array-borrow-prefix-some-table-2

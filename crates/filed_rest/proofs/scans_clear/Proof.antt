@@ -12,6 +12,9 @@ use Rattle.model.specs.Basic.{AtMost}
 use Rattle.model.specs.State.{LaterFits}
 use Rattle.model.specs.Reference.{reference}
 use Rattle.model.proofs.Halftone.{few-cells}
+use Rattle.model.specs.declared.Stats.{Stats}
+use Rattle.invariants.specs.Plate.{Ready}
+use Rattle.invariants.proofs.Plate.{slice-bytes}
 use Rattle.filed_rest.proofs.Clear.{fresh-later, still, not-at-rest, swaps-decide}
 use Rattle.filed_rest.proofs.scans_clear.Statement.{statement}
 use Rattle.filed_rest.proofs.scans_clear.Tie as tie
@@ -35,9 +38,20 @@ module _ (c : tie.After-fresh) where
   abbrev s : tie.Start
   s = search
 
-  -- gray is made of bytes
+  abbrev k : tie.After-kernel
+  k = search
+
+  abbrev known : tie.After-shared-slice-known2
+  known = search
+
   bytes : AtMost 255 (s .args .gray .now)
-  bytes = record { each = λ i. omega (arith, c .before .before .before .before .shared-slice-known2 .given i) }
+  bytes = slice-bytes (known .shared-slice-known2 .given)
+
+  -- what a scan asks for
+  with-kernel : {dots : List ℕ} {table : List ℤ} {r : Stats}
+      → LaterFits (s .args .m) (s .args .psf .now) (s .args .gray .now) dots table r
+      → Ready (s .args .m) (s .args .psf .now) (s .args .gray .now) (k .kernel .result) dots table r
+  with-kernel f = record { later = f; kernel = k .kernel .ensures; bytes = bytes }
 
   fits : LaterFits (s .args .m) (s .args .psf .now) (s .args .gray .now) (s .args .dots .now) (s .args .table .now)
       (c .fresh .result)
@@ -45,8 +59,7 @@ module _ (c : tie.After-fresh) where
 
 toggle-all-requires : tie.Need-toggle-all-requires
 toggle-all-requires c κs =
-    let f : tie.After-fresh = search in
-    (fits f, f .before .before .kernel .ensures)
+    let f : tie.After-fresh = search in with-kernel f (fits f)
 
 same-length : tie.Need-same-length
 same-length c = search needs
@@ -58,7 +71,7 @@ returns : tie.Need-returns
 returns c =
     let a : tie.After-toggle-all = search in
     let f : tie.After-fresh = search in
-    not-at-rest (s f .args .m) _ _ _ (f .fresh .ensures) (a .toggle-all .ensures .0) _ (c .if1 .taken)
+    not-at-rest (s f .args .m) _ _ _ (f .fresh .ensures) (a .toggle-all .ensures .answer-is) _ (c .if1 .taken)
 
 -- where the toggle scan accepts nothing
 module _ (c : tie.Else1) where
@@ -78,16 +91,15 @@ module _ (c : tie.Else1) where
       (a .toggle-all .result .stats)
       × (reference left (a .toggle-all .result .stats) ≡ reference (s f .args .dots .now) (f .fresh .result))
   same =
-      still _ _ _ _ (f .fresh .ensures) (a .toggle-all .ensures .0) (fits f) (c .if1 .left)
-      (a .toggle-all .ensures .1 .0) (a .toggle-all .ensures .1 .1)
+      still _ _ _ _ (f .fresh .ensures) (a .toggle-all .ensures .answer-is) (fits f) (c .if1 .left)
+      (a .toggle-all .ensures .dots-are) (a .toggle-all .ensures .table-is)
 
 slice-aggregate-swap-all : tie.Need-slice-aggregate-swap-all
 slice-aggregate-swap-all c = search needs
 
 swap-all-requires : tie.Need-swap-all-requires
 swap-all-requires c κs =
-    let e : tie.Else1 = search in
-    (same e .0, f e .before .before .kernel .ensures)
+    let e : tie.Else1 = search in with-kernel (f e) (same e .0)
 
 same-length-3 : tie.Need-same-length-3
 same-length-3 c = search needs
@@ -99,8 +111,8 @@ returns-2 : tie.Need-returns-2
 returns-2 c =
     let w : tie.After-swap-all = search in
     let e : tie.Else1 = search in
-    swaps-decide (s (f e) .args .m) _ _ _ (f e .fresh .ensures) (a e .toggle-all .ensures .0) _ (e .if1 .left)
-    (same e .1) (w .swap-all .ensures .0)
+    swaps-decide (s (f e) .args .m) _ _ _ (f e .fresh .ensures) (a e .toggle-all .ensures .answer-is) _ (e .if1 .left)
+    (same e .1) (w .swap-all .ensures .answer-is)
 
 pub scans-clear-spec : {M : Type 1} → statement M
 scans-clear-spec =

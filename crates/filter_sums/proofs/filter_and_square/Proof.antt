@@ -27,13 +27,12 @@ weigh-requires c κs =
     let is = k .filter .ensures in (
       record {
         dots-long = f .dots-length ∙ sym (f .gray-length);
-        long = ap length {y = filteredErrors t (a .dots .now)} is ∙ filtered-long t (a .dots .now) ∙ sym (f .gray-length);
+        long =
+            ap length {y = filteredErrors t (a .dots .now)} is ∙ filtered-long t (a .dots .now) ∙ sym (f .gray-length);
+        few = omega (arith, few-cells f, f .gray-length);
         bits = f .bits;
       },
-      (
-        omega (arith, few-cells f, f .gray-length),
-        table-small f (record { each = λ i. omega (arith, known .shared-slice-known2 .given i) }) is,
-      ),
+      table-small f (record { each = λ i. omega (arith, known .shared-slice-known2 .given i) }) is,
     )
 
 same-length : tie.Need-same-length

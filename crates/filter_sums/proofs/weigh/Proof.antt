@@ -55,7 +55,7 @@ module _ (c : tie.After-error-at Inv-loop μ-loop) where
   entry = getD (s .args .table .now) (l .loop .m) (pos 0)
 
   held : Holds w32 (ofZ w32 entry) entry mostFiltered
-  held = of-small w32 entry (s .pre .1 .1 .each (l .loop .m)) (lit< tt)
+  held = of-small w32 entry (s .pre .1 .each (l .loop .m)) (lit< tt)
 
 cast-sum : tie.Need-cast-sum Inv-loop μ-loop
 cast-sum c = cast-fits w64 (of-small w32 (c .error-at .result) (c .error-at .ensures .1) (lit< tt)) (lit< tt)

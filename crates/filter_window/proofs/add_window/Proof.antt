@@ -1,5 +1,5 @@
--- `filter_window::add_window` meets its contract. The loop's invariant: the window is added to the rows above y. The measure
--- is what is left of the rows.
+-- `filter_window::add_window` meets its contract. The loop's invariant: the window is added to the rows above y. The
+-- measure is what is left of the rows.
 use mathlib.Core.Path.{_≡_, sym, _∙_}
 use Prim.Native.Nat.{_+_, _-_, _≤_, _<_, min}
 use native.Mathlib.Nat.{le-of-eq}

@@ -78,13 +78,15 @@ returns-4 : tie.Need-returns-4
 returns-4 c =
     let s : tie.Start = search in
     let a = s .args in
-    other-column (a .reach) (a .at .row) (a .at .col) (a .to .row) (a .to .col) (omega arith) (omega arith) (omega arith)
+    other-column (a .reach) (a .at .row) (a .at .col) (a .to .row) (a .to .col)
+    (omega arith) (omega arith) (omega arith)
 
 returns-5 : tie.Need-returns-5
 returns-5 c =
     let s : tie.Start = search in
     let a = s .args in
-    itself (a .reach) (a .at .row) (a .at .col) (a .to .row) (a .to .col) (omega arith) (omega arith) (omega arith) (omega arith)
+    itself (a .reach) (a .at .row) (a .at .col) (a .to .row) (a .to .col)
+    (omega arith) (omega arith) (omega arith) (omega arith)
 
 pub judge-pair-spec : {M : Type 1} → statement M
 judge-pair-spec =

@@ -1,5 +1,5 @@
--- `judge_input::judge_halftone` meets its contract: the list of refusals is in three parts, each with a judge of its own, and
--- the first number that a judge finds is the first of the whole list.
+-- `judge_input::judge_halftone` meets its contract: the list of refusals is in three parts, each with a judge of its
+-- own, and the first number that a judge finds is the first of the whole list.
 use mathlib.Core.List.{List, [], _∷_, _++_}
 use Prim.Native.Nat.{_*_}
 use borrow.Author.Needs.{needs}

@@ -1,4 +1,5 @@
--- `judge_input::judge_handed` meets its contract: the measures are judged first, and the slices only where these draw none.
+-- `judge_input::judge_handed` meets its contract: the measures are judged first, and the slices only where these draw
+-- none.
 use mathlib.Core.List.{List, [], _∷_}
 use Prim.Native.Nat.{_*_}
 use borrow.Author.Needs.{needs}

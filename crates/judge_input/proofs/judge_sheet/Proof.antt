@@ -1,5 +1,5 @@
--- `judge_input::judge_sheet` meets its contract: the measures are judged first, then 5 and 7. `judge_lengths` is handed the
--- length of the dots twice, which tests it no differently from once.
+-- `judge_input::judge_sheet` meets its contract: the measures are judged first, then 5 and 7. `judge_lengths` is handed
+-- the length of the dots twice, which tests it no differently from once.
 use mathlib.Core.Bool.{or-self-left}
 use mathlib.Core.List.{List, [], _∷_, _++_}
 use mathlib.Core.Path.{_∙_}

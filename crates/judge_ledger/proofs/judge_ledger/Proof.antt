@@ -1,4 +1,5 @@
--- `judge_ledger::judge_ledger` meets its contract: what the tests leave is said first, then each return is read off its tests.
+-- `judge_ledger::judge_ledger` meets its contract: what the tests leave is said first, then each return is read off its
+-- tests.
 use mathlib.Core.Path.{_≡_, refl, sym, _∙_, ap}
 use native.Mathlib.Omega.{arith}
 use borrow.Author.Needs.{needs}

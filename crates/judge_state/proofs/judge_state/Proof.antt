@@ -1,5 +1,5 @@
--- `judge_state::judge_state` meets its contract: the local array's part is the table worked out afresh, and the ledger is
--- held against the sums of the callees.
+-- `judge_state::judge_state` meets its contract: the local array's part is the table worked out afresh, and the ledger
+-- is held against the sums of the callees.
 use mathlib.Core.List.{List, _++_}
 use mathlib.Core.Path.{_≡_, sym, _∙_, ap, subst}
 use Prim.Native.Nat.{_≤_}

@@ -1,5 +1,5 @@
--- `search_judge::judge_swap` meets its contract: 1 to 7, then 8 and 9, then 20, 21 and 22, each part with a judge of its
--- own.
+-- `search_judge::judge_swap` meets its contract: 1 to 7, then 8 and 9, then 20, 21 and 22, each part with a judge of
+-- its own.
 use mathlib.Core.List.{[], _∷_}
 use mathlib.Core.Path.{_≡_}
 use Prim.Native.Nat.{_<_}

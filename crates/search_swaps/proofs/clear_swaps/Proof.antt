@@ -7,8 +7,8 @@ use borrow.Author.Needs.{needs}
 use Rattle.algebra.proofs.Grid.{rows-apart}
 use Rattle.invariants.specs.Plate.{Judged, OnPlate, cellOf}
 use Rattle.invariants.proofs.Partners.{worths-small}
-use Rattle.invariants.proofs.Plate.{place-fits, judged-small}
-use Rattle.search_swaps.proofs.Clear.{run-failed}
+use Rattle.invariants.proofs.Plate.{place-fits}
+use Rattle.search_swaps.proofs.Clear.{judged-tabled, run-failed}
 use Rattle.search_swaps.proofs.clear_swaps.Statement.{statement}
 use Rattle.search_swaps.proofs.clear_swaps.Tie as tie
 
@@ -51,7 +51,17 @@ module _ (run : tie.After-least) where
   room = omega (arith, short, rows-apart (start .args .measures .width) (on start .row-below))
 
 swaps-clear-requires : tie.Need-swaps-clear-requires
-swaps-clear-requires c κs = ?
+swaps-clear-requires c κs =
+    let run : tie.After-least = search in
+    let s = start run in
+    let (row, col, wide) = place-fits (judged s) (on s) in
+    let worths = s .pre .1 .1 in (
+      (row, col, wide, omega (arith, run .least .ensures)),
+      (
+        (judged-tabled (judged s), omega (arith, room run, judged s .plate .halftone .dots-length)),
+        (worths .long, worths-small _ (judged s .kernel .small) worths),
+      ),
+    )
 
 returns-3 : tie.Need-returns-3
 returns-3 c =

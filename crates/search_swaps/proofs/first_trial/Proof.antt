@@ -2,15 +2,20 @@
 -- are clear every trial fails.
 use native.Mathlib.Nat.{le-refl, not-suc-le-zero}
 use native.Mathlib.Omega.{arith}
-use Rattle.invariants.proofs.Plate.{judged-small}
 use Rattle.invariants.proofs.Trials.{failed-all}
-use Rattle.search_prune.proofs.Grid.{grid-small}
-use Rattle.search_swaps.proofs.Clear.{offset-near, none-lowers}
+use Rattle.search_swaps.proofs.Clear.{judged-tabled, offset-near, none-lowers}
 use Rattle.search_swaps.proofs.first_trial.Statement.{statement}
 use Rattle.search_swaps.proofs.first_trial.Tie as tie
 
 may-lower-requires : tie.Need-may-lower-requires
-may-lower-requires c κs = ?
+may-lower-requires c κs =
+    let s : tie.Start = search in
+    let (judged, on) = s .pre .0 in
+    let grid = s .pre .1 .1 in
+    let f = judged .plate .halftone in (
+      (on .row-below, on .col-below, f .wide .1, f .high .1, grid .near),
+      ((judged-tabled judged, f .dots-length), (grid .long, grid .small)),
+    )
 
 returns : tie.Need-returns
 returns c = (omega arith, record { each = λ j h. absurd (not-suc-le-zero h) })

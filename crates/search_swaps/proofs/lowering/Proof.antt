@@ -35,7 +35,7 @@ module _ (s : tie.Start) where
   worth-held =
       of-small w32 (s .args .worth)
       (subst (λ (z : ℤ). natAbs z ≤ mostWorth) (sym (s .pre .1))
-      (worth-small _ _ (rowOf (s .args .code)) (columnOf (s .args .code)) (judged .kernel .small)))
+      (worth-small _ (judged .kernel .small) (rowOf (s .args .code)) (columnOf (s .args .code))))
       (lit< tt)
 
 index-requires : tie.Need-index-requires

@@ -9,7 +9,7 @@ use lib.ListN.{length, getD}
 use Rattle.model.specs.declared.Cell.{Cell}
 use Rattle.model.specs.Change.{swap, lowers}
 use Rattle.model.specs.Error.{Target, targetFor}
-use Rattle.model.specs.Partners.{lands}
+use Rattle.model.specs.Partners.{lands, partner}
 use Rattle.model.specs.Scan.{suits}
 use Rattle.model.proofs.Attempts.{entry-stats}
 use Rattle.invariants.specs.Partners.{rowOf, columnOf, offsetOf, HoldsOffsets}
@@ -69,8 +69,14 @@ module _ (a : tie.Else1) where
   took : lowersAt (target start) (start .args .dots .now) (m start) (offsetOf (code start)) ≡ true
   took = start .pre .1 .1 short
 
+  lowersAt-is : (suits (target start) (start .args .dots .now) (m start) (offsetOf (code start)) ≡ true)
+      × (lowers (target start) (start .args .dots .now)
+      (swap (start .args .dots .now) (m start) (partner (start .args .measures .width) (m start) (offsetOf (code start))))
+      ≡ true)
+  lowersAt-is = and-eq-true-iff _ _ .0 took
+
   suited : suits (target start) (start .args .dots .now) (m start) (offsetOf (code start)) ≡ true
-  suited = and-eq-true-iff _ _ .0 took .0
+  suited = lowersAt-is .0
 
   lands-there : lands (start .args .measures .width) (start .args .measures .height) (m start) (offsetOf (code start)) ≡ true
   lands-there =
@@ -87,7 +93,88 @@ module _ (a : tie.Else1) where
   inside : (6 ≤ row + rowOf (code start)) × (6 ≤ col + columnOf (code start))
   inside = landed _ _ row col (on start .col-below) (rowOf (code start)) (columnOf (code start)) lands-there .0
 
+  -- the swap with it lowers E
+  lower : lowers (target start) (start .args .dots .now) (swapAt (start .args .measures) (start .args .dots .now)
+      (start .args .at) to) ≡ true
+  lower =
+      ap (λ k. lowers (target start) (start .args .dots .now) (swap (start .args .dots .now) (m start) k))
+      (sym (stands _ (start .args .measures .height) row col (on start .col-below) (rowOf (code start))
+      (columnOf (code start)) lands-there))
+      ∙ lowersAt-is .1
+
   unlike : Unlike (start .args .measures) (start .args .dots .now) (start .args .at) to
   unlike =
       suits-unlike (target start) row col (on start .col-below) (rowOf (code start)) (columnOf (code start))
       (start .args .dots .now) suited
+
+shared-slice-read-code : tie.Need-shared-slice-read-code
+shared-slice-read-code c = let a : tie.Else1 = search in short a
+
+cast-t14 : tie.Need-cast-t14
+cast-t14 c = let a : tie.Else1 = search in record { fits = omega (arith, near a) }
+
+add-t18 : tie.Need-add-t18
+add-t18 c =
+    let a : tie.Else1 = search in
+    let f = start a .pre .0 .later .plate .halftone in
+    record { fits = omega (arith, near a, on (start a) .row-below, f .high) }
+
+sub-t19 : tie.Need-sub-t19
+sub-t19 c = let a : tie.Else1 = search in inside a .0
+
+cast-t21 : tie.Need-cast-t21
+cast-t21 c = let a : tie.Else1 = search in record { fits = omega (arith, near a) }
+
+add-t22 : tie.Need-add-t22
+add-t22 c =
+    let a : tie.Else1 = search in
+    let f = start a .pre .0 .later .plate .halftone in
+    record { fits = omega (arith, near a, on (start a) .col-below, f .wide) }
+
+sub-t23 : tie.Need-sub-t23
+sub-t23 c = let a : tie.Else1 = search in inside a .1
+
+swap-requires : tie.Need-swap-requires
+swap-requires c κs =
+    let a : tie.Else1 = search in (start a .pre .0, (on (start a), there a, unlike a))
+
+advance-requires : tie.Need-advance-requires
+advance-requires c κs = let s : tie.Start = search in s .pre .1 .0 .1
+
+same-length : tie.Need-same-length
+same-length c = search needs
+
+same-length-2 : tie.Need-same-length-2
+same-length-2 c = search needs
+
+returns-2 : tie.Need-returns-2
+returns-2 c =
+    let a : tie.Else1 = search in
+    let tried : tie.After-swap = search in
+    let g = start a .args in
+    let found = g .found in
+    let taken =
+    swap-taken (target (start a)) (g .measures .reach) (g .dots .now) (g .progress) (m (start a)) found
+    (subst (λ n. found < n) (held (start a) .long) (short a)) (held (start a) .at found (short a)) (took a)
+    (stands _ _ _ _ (on (start a) .col-below) (rowOf (code (start a))) (columnOf (code (start a))) (lands-there a)) in
+    attempt-advances (target (start a)) (g .dots .now) (g .progress) (swapAt (g .measures) (g .dots .now) (g .at) (to a))
+    _ _ (entry-stats _ _ _ _ _ _ (start a .pre .0 .later)) (λ e. taken) (λ e. absurd (true≢false (sym (lower a) ∙ e))) _
+    (c .advance .ensures) (tried .swap .ensures)
+
+pub swap-cell-spec : {M : Type 1} → statement M
+swap-cell-spec =
+    tie.close
+    (tie.spec
+    returns
+    shared-slice-read-code
+    cast-t14
+    add-t18
+    sub-t19
+    cast-t21
+    add-t22
+    sub-t23
+    swap-requires
+    advance-requires
+    same-length
+    same-length-2
+    returns-2)

@@ -106,7 +106,7 @@ loop-again-2 c =
     let v : tie.Then1 Inv-loop μ-loop = search in
     let done : tie.After-toggle-cell Inv-loop μ-loop = search in
     scanning-next (l v .loop .inv) (lawful (l v)) (sound (l v)) (here v) (c .next .ensures .1) (c .next .ensures .0)
-    (done .toggle-cell .ensures)
+    refl (done .toggle-cell .ensures)
 
 same-length : tie.Need-same-length Inv-loop μ-loop
 same-length c =

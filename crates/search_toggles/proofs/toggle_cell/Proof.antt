@@ -1,11 +1,8 @@
 -- `search_toggles::toggle_cell` meets its contract: the attempt at the cell is the reference's visit of it.
-use mathlib.Core.Path.{_∙_, subst, sym}
 use borrow.Author.Needs.{needs}
 use Rattle.model.specs.Error.{targetFor}
-use Rattle.model.specs.Scan.{toggles}
 use Rattle.model.proofs.Attempts.{entry-stats}
-use Rattle.invariants.specs.Plate.{cellOf, toggleAt, Leaves}
-use Rattle.invariants.specs.Trials.{performed, visit}
+use Rattle.invariants.specs.Plate.{cellOf, toggleAt}
 use Rattle.invariants.proofs.Scanning.{toggle-declined, toggle-accepted, attempt-advances}
 use Rattle.search_toggles.proofs.toggle_cell.Statement.{statement}
 use Rattle.search_toggles.proofs.toggle_cell.Tie as tie
@@ -29,11 +26,9 @@ returns c =
     let a = s .args in
     let t = targetFor (a .measures) (a .psf .now) (a .gray .now) in
     let n = cellOf (a .measures .width) (a .at) in
-    subst (λ r. Leaves t (performed t (visit t (toggles t) (a .dots .now) (a .progress) n)) r _ _)
-    (sym (c .advance .ensures))
-    (attempt-advances t (a .dots .now) (a .progress) (toggleAt (a .measures) (a .dots .now) (a .at)) _ _
+    attempt-advances t (a .dots .now) (a .progress) (toggleAt (a .measures) (a .dots .now) (a .at)) _ _
     (entry-stats _ _ _ _ _ _ (s .pre .0 .later)) (toggle-accepted t (a .dots .now) (a .progress) n)
-    (toggle-declined t (a .dots .now) (a .progress) n) _ (tried .toggle .ensures))
+    (toggle-declined t (a .dots .now) (a .progress) n) _ (c .advance .ensures) (tried .toggle .ensures)
 
 pub toggle-cell-spec : {M : Type 1} → statement M
 toggle-cell-spec =
