@@ -52,8 +52,7 @@ slice-aggregate-lay-worths c = part-whole _ _ (omega arith)
 lay-worths-requires : tie.Need-lay-worths-requires
 lay-worths-requires c κs =
     let s : tie.Start = search in
-    let g : tie.After-grid-size = search in
-    (
+    let g : tie.After-grid-size = search in (
       kernel-square (ready-judged (s .pre)),
       s .pre .later .plate .reach-near,
       sym (part-whole _ _ (g .grid-size .ensures .1)) ∙ g .grid-size .ensures .0,
