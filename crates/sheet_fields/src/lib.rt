@@ -9,7 +9,7 @@ ghost use lib.Seq.{sets};
 ghost use Rattle.model.specs.Error.{mostCells};
 ghost use Rattle.model.specs.Text.{isLetter, stepTo};
 ghost use Rattle.model.specs.Sheet.{endOf};
-ghost use Rattle.model.specs.Format.{grid, block, isAt, fixedAt, fieldAt, parse, placeOf};
+ghost use Rattle.model.specs.Format.{grid, block, field, isAt, fixedAt, fieldAt, parse, placeOf};
 ghost use Rattle.model.specs.Format.{fixed, parseNext, fieldNext, limitOf};
 use model::Field;
 use model::Item;
@@ -109,6 +109,17 @@ fn step_in(s: &[u8], at: usize, hi: usize) -> Step
     step_to(hi + 1, s, at)
 }
 
+// a number and the place after it, or a refusal
+fn field_of(refusal: u32, at: usize, value: usize) -> Field
+    ensures { λ r. ⌜ r ≡ field refusal at value ⌝ }
+{
+    Field {
+        refusal: refusal,
+        at: at,
+        value: value,
+    }
+}
+
 // a number from lo to hi and the byte that ends it
 fn read_field(s: &[u8], at: usize, lo: usize, hi: usize, end: u8) -> Field
     requires { ⌜ hi < 2 ^ 63 ⌝ }
@@ -121,37 +132,17 @@ fn read_field(s: &[u8], at: usize, lo: usize, hi: usize, end: u8) -> Field
     match item {
         Item::Number(value) => {
             if value < lo {
-                return Field {
-                    refusal: 11,
-                    at: from,
-                    value: 0,
-                };
+                return field_of(11, from, 0);
             }
             if hi < value {
-                return Field {
-                    refusal: 11,
-                    at: from,
-                    value: 0,
-                };
+                return field_of(11, from, 0);
             }
             if ends_in(s, next, end) {
-                return Field {
-                    refusal: 0,
-                    at: next + 1,
-                    value: value,
-                };
+                return field_of(0, next + 1, value);
             }
-            Field {
-                refusal: 10,
-                at: next,
-                value: 0,
-            }
+            field_of(10, next, 0)
         }
-        _ => Field {
-            refusal: 10,
-            at: from,
-            value: 0,
-        },
+        _ => field_of(10, from, 0),
     }
 }
 
@@ -161,11 +152,7 @@ pub fn next_field(s: &[u8], done: Field, lo: usize, hi: usize, end: u8) -> Field
     ensures { λ r. ⌜ r ≡ fieldNext lo hi end (now (s .entry)) done ⌝ }
 {
     if done.refusal != 0 {
-        return Field {
-            refusal: done.refusal,
-            at: done.at,
-            value: 0,
-        };
+        return field_of(done.refusal, done.at, 0);
     }
     read_field(s, done.at, lo, hi, end)
 }
