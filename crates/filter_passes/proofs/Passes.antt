@@ -1,9 +1,10 @@
 -- The two passes that build the table, each entry by entry of the psf.
---   added-none, added-next                        a block added row by row
---   plate-lies, widened-lies                      the frames of the plate and of the widened plate
---   pass-none, pass-next, pass-small              a pass, one entry further, and the sizes on the way
---   passed-small, passed-long                     what it leaves
---   gathered-is                                   the two passes, one after the other, leave the filtered error
+--   added-none, added-rest, added-next  a block added row by row
+--   plate-lies, widened-lies            the frames of the plate and of the widened plate
+--   pass-none, pass-next, pass-small    a pass, one entry further, and the sizes on the way
+--   passed-small, passed-long           what it leaves
+--   errors-small                        the errors that the first pass is handed
+--   gathered-is                         the two passes, one after the other, leave the filtered error
 use mathlib.Core.Path.{_≡_, refl, sym, _∙_, ap, ap₂}
 use mathlib.Core.List.{List}
 use Prim.Native.Nat.{ℕ, _+_, _*_, _-_, _/_, _%_, _≤_, _<_}
@@ -119,7 +120,7 @@ module _ (w h r : ℕ) where
     at = passedAt w h r psf from to c
 
     abbrev term : ℕ → ℕ → ℤ
-    term = brought w h r psf from to c
+    term = brought w h r from to c
 
     pub pass-none : (N : ℕ) → tabulate N (λ q. pos 0) ≡ tabulate N (at 0)
     unfolding passedAt sumTo
@@ -201,7 +202,7 @@ module _ (w h r : ℕ) where
 
     -- the block of entry k, moved
     block-moved : (k Y X : ℕ) → X < span
-        → brought w h r psf (plate w) (widened w r) errors k (Y * span + X)
+        → brought w h r (plate w) (widened w r) errors k (Y * span + X)
         ≡ moved h w (errorOf 255 gray dots) (k / s) (k % s) Y X
     block-moved k Y X l =
         rw (NatL.mul-one (k / s), NatL.mul-one (k % s), cell-row {y = Y} l, cell-column Y l)
@@ -215,13 +216,13 @@ module _ (w h r : ℕ) where
     spread-is square Y X k l =
         getD-tabulate ((h + 2 * r) * span) _ (Y * span + X) (pos 0) (cell< k l)
         ∙ ap (λ n. sumTo n (λ k. pos (getD psf k 0)
-        *ℤ brought w h r psf (plate w) (widened w r) errors k (Y * span + X))) square
+        *ℤ brought w h r (plate w) (widened w r) errors k (Y * span + X))) square
         ∙ sum-cong (s * s) (λ k m. ap (λ z. pos (getD psf k 0) *ℤ z) (block-moved k Y X l))
         ∙ perceived-spread target dots Y X
 
     -- the entry that comes from the block of entry k to the cell q
     block-entry : (g : List ℤ) (k q : ℕ) → 0 < w → q < h * w
-        → brought w h r psf (widened w r) (plate w) g k q
+        → brought w h r (widened w r) (plate w) g k q
         ≡ getD g ((q / w + k / s) * span + (q % w + k % s)) (pos 0)
     block-entry g k q wide l =
         moved-one h w _ _ _ (q / w) (q % w) (q / w) (q % w) (row< q wide l) (column< q wide)
@@ -236,7 +237,7 @@ module _ (w h r : ℕ) where
     gathered-is wide square =
         tabulate-cong (h * w) (λ q l.
         ap (λ n. sumTo n (λ k. pos (getD psf k 0)
-        *ℤ brought w h r psf (widened w r) (plate w) (spread w h r psf errors) k q)) square
+        *ℤ brought w h r (widened w r) (plate w) (spread w h r psf errors) k q)) square
         ∙ sum-cong (s * s) (λ k m.
         ap (λ z. pos (getD psf k 0) *ℤ z)
         (block-entry (spread w h r psf errors) k q wide l

@@ -48,16 +48,16 @@ module _ (w h r : ℕ) where
     pub wide : (k : ℕ) → w + k % (2 * r + 1) * f .moves ≤ f .span
     pub ends : (k y : ℕ) → k < (2 * r + 1) * (2 * r + 1) → y < h → cornerOf r f k + y * f .span + w ≤ long
 
-  module _ (psf : List ℕ) (from to : Frame) (c : List ℤ) where
-    -- what the block of entry k brings to the place q
-    abbrev pub brought : (k q : ℕ) → ℤ
-    brought k q =
-        moved h w (λ m. getD c (cornerOf r from k + m / w * from .span + m % w) (pos 0))
-        (k / (2 * r + 1) * to .moves) (k % (2 * r + 1) * to .moves) (q / to .span) (q % to .span)
+  -- what the block of entry k of the psf brings to the place q
+  abbrev pub brought : (from to : Frame) → List ℤ → (k q : ℕ) → ℤ
+  brought from to c k q =
+      moved h w (λ m. getD c (cornerOf r from k + m / w * from .span + m % w) (pos 0))
+      (k / (2 * r + 1) * to .moves) (k % (2 * r + 1) * to .moves) (q / to .span) (q % to .span)
 
+  module _ (psf : List ℕ) (from to : Frame) (c : List ℤ) where
     -- by the first i entries of the psf
     unfoldable pub passedAt : (i q : ℕ) → ℤ
-    passedAt i q = sumTo i (λ k. pos (getD psf k 0) *ℤ brought k q)
+    passedAt i q = sumTo i (λ k. pos (getD psf k 0) *ℤ brought from to c k q)
 
     -- by all of them, in a slice of that length
     unfoldable pub passed : (long : ℕ) → List ℤ

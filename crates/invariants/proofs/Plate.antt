@@ -1,4 +1,5 @@
 -- Laws of a judged plate, of the changes weighed and made on it, and of what is left.
+--   slice-bytes                       a slice of bytes holds numbers up to 255
 --   ready-judged                      a plate with its ledger is a judged one
 --   place-fits, on-plate              what a cell's place asks for, and that the cell is one of the plate's
 --   kernel-square, judged-small       the numbers of kernel and table are small
@@ -6,7 +7,7 @@
 --   store-window, stored-judged       a byte is stored: by a window the table follows, and it is a judged plate again
 --   countable                         a change can be counted
 --   attempt-declined, attempt-accepted  what an attempt answers and leaves, its change being weighed
---   leaves-ends                       a call that is not refused ends as the reference does
+--   as-reply, leaves-ends             a call that is not refused ends as the reference does
 use mathlib.Core.Bool.{true, false}
 use mathlib.Core.List.{List, [], _∷_}
 use mathlib.Core.Path.{_≡_, refl, sym, _∙_, ap, ap₂, subst}
@@ -15,6 +16,8 @@ use native.Mathlib.Omega.{arith}
 use lib.IntN.{ℤ, pos, natAbs, _-ℤ_, _*ℤ_}
 use lib.ListN.{length, getD, set}
 use lib.Signed.{ltZ, _≤ℤ_, _<ℤ_, clashℤ}
+use mir.Syntax.{w8}
+use mir.Val.{Fits}
 use Rattle.algebra.proofs.Grid.{cell-row, cell-column, cell<}
 use Rattle.algebra.proofs.Order.{natAbs-below}
 use Rattle.model.specs.declared.Cell.{Cell}
@@ -41,7 +44,7 @@ use Rattle.invariants.specs.Plate.{mostChange, Weighs, Countable, Leaves
 use Rattle.invariants.proofs.Window.{square-small, store-table, table-small}
 
 -- what a slice of bytes is known to hold
-pub slice-bytes : {l : List ℕ} → ((i : ℕ) → getD l i 0 < 256) → AtMost 255 l
+pub slice-bytes : {l : List ℕ} → ((i : ℕ) → Fits w8 (getD l i 0)) → AtMost 255 l
 slice-bytes h = record { each = λ i. omega (arith, h i) }
 
 -- ---- a judged plate
@@ -222,6 +225,12 @@ module _ {t : Target} {dots : List ℕ} {v : Move} {delta : ℤ} (w : Weighs t d
       (λ n. clashℤ (subst (λ z. z <ℤ pos 0) (w .delta-is) (below low)) n)
 
 -- ---- a call that is not refused ends as the reference does
+-- its answer as a reply
+pub as-reply : {A : Type 0} {t : Target} {done : Performed A} {answer : A} {dots : List ℕ} {table : List ℤ}
+    → Leaves t done answer dots table → Leaves t (replied done) (result answer) dots table
+as-reply left =
+    record { answer-is = ap result (left .answer-is); dots-are = left .dots-are; table-is = left .table-is }
+
 pub leaves-ends : {A : Type 0} {t : Target} {done : Performed A} {reply : Reply A} {dots : List ℕ} {table : List ℤ}
     {number : ℕ} (dots₀ : List ℕ) (table₀ : List ℤ) → number ≡ 0 → Leaves t (replied done) reply dots table
     → Ends (laterCall number t dots₀ table₀ done) reply (buffers dots table)

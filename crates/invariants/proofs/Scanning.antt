@@ -6,7 +6,7 @@
 --   scanning-start, scanning-ready     it starts from what a later call is handed, and later calls accept what is there
 --   scanning-few                       its accepted changes are few
 --   scanning-next, scanning-ahead      one cell more; a run of cells more, where nothing is accepted at any
---   scanning-end                       every cell done
+--   scanning-end, scan-leaves          every cell done, and what the scan answers then
 use mathlib.Core.Bool.{true, false}
 use mathlib.Core.List.{List, []}
 use mathlib.Core.Path.{_≡_, refl, sym, _∙_, ap, ap₂, subst}
@@ -20,13 +20,14 @@ use Rattle.model.specs.declared.Cell.{Cell}
 use Rattle.model.specs.declared.Measures.{Measures}
 use Rattle.model.specs.declared.Stats.{Stats}
 use Rattle.model.specs.declared.Progress.{Progress}
+use Rattle.model.specs.declared.ScanResult.{ScanResult}
 use Rattle.model.specs.Basic.{pick}
 use Rattle.model.specs.Error.{Target, targetFor, cells, filteredErrors}
 use Rattle.model.specs.Change.{Move, toggle, lowers}
 use Rattle.model.specs.Calls.{Reply}
 use Rattle.model.specs.Reference.{Reference, reference, accept, statsOf, Tried, attempt}
 use Rattle.model.specs.State.{LaterFits}
-use Rattle.model.specs.Scan.{Rule, toggles, Sweep, tryEach, sweepTo, sweep, progressOf}
+use Rattle.model.specs.Scan.{Rule, toggles, Sweep, tryEach, sweepTo, sweep, progressOf, resultOf, scan}
 use Rattle.model.proofs.Attempts.{Sound, entry-stats, attempt-by}
 use Rattle.model.proofs.Scan.{Lawful, more, try-none, try-step, sweep-later, sweep-counts}
 use Rattle.invariants.specs.Plate.{OnPlate, cellOf, Leaves, replied}
@@ -243,3 +244,11 @@ module _ {m : Measures} {psf gray : List ℕ} {rule : Rule} {p : Reference} {at 
       let all : cellOf (m .width) at ≡ m .height * m .width =
       omega (arith, u .so-far, mul-le-mul-right (m .width) below) in
       done-at so all .left
+
+-- and what it answers then
+pub scan-leaves : {t : Target} (rule : Rule) (p : Reference) {r : Progress} {answer : ScanResult} {dots : List ℕ}
+    {table : List ℤ} → answer ≡ resultOf r → Leaves t (performed t (sweep t rule p)) r dots table
+    → Leaves t (scan t rule p) answer dots table
+unfolding scan
+scan-leaves rule p e left =
+    record { answer-is = e ∙ ap resultOf (left .answer-is); dots-are = left .dots-are; table-is = left .table-is }

@@ -10,6 +10,7 @@ use Rattle.model.specs.Scan.{toggles, swaps}
 use Rattle.model.specs.State.{LaterFits}
 use Rattle.invariants.specs.Plate.{Ready}
 use Rattle.model.proofs.Scan.{toggles-lawful, swaps-lawful}
+use Prim.Native.Nat.{ℕ}
 use Rattle.search_converge.proofs.Turns.{Made, made-by, Turning, scans-fit}
 use Rattle.search_converge.proofs.Turns.{turning-first, turning-again, again-lower, turning-anew, anew-lower, turning-end}
 use Rattle.search_converge.proofs.come_to_rest.Statement.{statement}
