@@ -19,7 +19,8 @@ use Rattle.model.specs.Calls.{refused, Outcome}
 use Rattle.model.specs.Sheet.{InRange}
 use Rattle.model.specs.Format.{headFrom, headBy, body, Parsed, parse}
 use Rattle.model.specs.Grammar.{Taken, readByGrammar}
-use Rattle.model.specs.Filed.{figureParts, filedGrammar, filedRoom, filedEnd, readFiled}
+use Rattle.model.specs.Filed.{figureParts, filedGrammar, filedRoom, readFiled}
+use Rattle.invariants.specs.Reading.{filedEnd}
 use Rattle.model.specs.FiledCalls.{CheckBuffers, checkCall}
 use Rattle.model.proofs.Format.{Inside, good-head}
 use Rattle.model.proofs.Agrees.{read-text}
