@@ -65,7 +65,7 @@ returns-2 c =
     let less : tie.After-wrapping-sub-usize2 = search in
     let a = s .args in
     let x = less .wrapping-sub-usize2 in
-    either (less-off (x .result) _ (a .width) (x .ensures) (omega (arith, x .ok)) (c .if2 .taken))
+    either (less-off (x .result) _ (a .width) (x .ensures) (omega (arith, x .ok)) (omega (arith, c .if2 .taken, s .pre .2)))
     (off-left (a .width) (a .height) (a .at .row) (a .at .col) (s .pre .1) (rowOf (a .code)) (columnOf (a .code)))
     (off-right (a .width) (a .height) (a .at .row) (a .at .col) (s .pre .1) (rowOf (a .code)) (columnOf (a .code)))
 
