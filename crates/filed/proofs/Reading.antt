@@ -18,8 +18,9 @@ use Rattle.model.specs.Calls.{refused, Outcome}
 use Rattle.model.specs.Sheet.{InRange}
 use Rattle.model.specs.Format.{headFrom, headBy, body, Parsed, parse}
 use Rattle.model.specs.Grammar.{Taken, readByGrammar}
-use Rattle.model.specs.Filed.{figureParts, filedGrammar, filedRoom, filedEnd, readFiled}
-use Rattle.model.specs.FiledCalls.{CheckBuffers, checkBuffers, checkCall}
+use Rattle.model.specs.Filed.{figureParts, filedGrammar, filedRoom, readFiled}
+use Rattle.invariants.specs.Reading.{filedEnd}
+use Rattle.model.specs.FiledCalls.{CheckBuffers, checkCall}
 use Rattle.model.proofs.Format.{Inside, good-head}
 use Rattle.model.proofs.Agrees.{read-text}
 use Rattle.model.proofs.Grammar.{first-values}
@@ -38,7 +39,7 @@ lines-in-range b z =
 
 module _ (bytes psf gray dots : List ℕ) (table : List ℤ) where
   abbrev handed : CheckBuffers
-  handed = checkBuffers psf gray dots table
+  handed = record { psf = psf; gray = gray; dots = dots; table = table }
 
   abbrev call : Outcome Verdict CheckBuffers
   call = checkCall bytes psf gray dots table

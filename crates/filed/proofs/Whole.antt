@@ -27,8 +27,9 @@ use Rattle.model.specs.Sheet.{Sheet, entriesOf, cellsOf, dotsIn, roomFor}
 use Rattle.model.specs.Format.{headFrom, headBy, body, Parsed, parse, sheetOf}
 use Rattle.model.specs.Grammar.{numbers, Taken}
 use Rattle.model.specs.Filed.{mostFigure, figuresIn, IsFiled, figureParts, filedRoom, filedSheet}
-use Rattle.model.specs.Filed.{filedFigures, filedEnd, readFiled}
-use Rattle.model.specs.FiledCalls.{verdictOf, CheckBuffers, checkBuffers, laid, checkCall}
+use Rattle.model.specs.Filed.{filedFigures, readFiled}
+use Rattle.invariants.specs.Reading.{filedEnd}
+use Rattle.model.specs.FiledCalls.{verdictOf, CheckBuffers, laid, checkCall}
 use Rattle.model.proofs.Basic.{zero-cases}
 use Rattle.model.proofs.Text.{and-true}
 use Rattle.model.proofs.Format.{parse-append, parse-refused, values-length}
@@ -113,7 +114,7 @@ module _ {bytes psf gray dots : List ℕ} {table : List ℤ} {h : Head} {p : Fil
       (subst FiledIn is-taken (read-filed bytes _ _ _ _ (ap (λ r. r .refusal) is-taken ∙ w .end-good) .0))
 
   abbrev handed : CheckBuffers
-  handed = checkBuffers psf gray dots table
+  handed = record { psf = psf; gray = gray; dots = dots; table = table }
 
   pub figures-few : AtMost mostFigure (figuresIn (p .figures))
   figures-few = filed .figures-most

@@ -7,9 +7,10 @@
 --   start-few                  the dots at the start are few
 --   first-held, error-held     E at the start and E now, as the locals hold them
 --   fall-is                    the last test is that of the numbers which they hold
+--   plate-asked              what is asked of the numbers of a judged plate
 use mathlib.Core.Bool.{Bool, true, false, or-assoc, or-false}
 use mathlib.Core.List.{List, [], _∷_}
-use mathlib.Core.Path.{_≡_, refl, sym, ap₂}
+use mathlib.Core.Path.{_≡_, refl, sym, ap₂, subst}
 use Prim.Native.Nat.{ℕ, zero, suc, _+_, _*_, _≤_}
 use native.Mathlib.Omega.{arith}
 use lib.Dec.{ltb, lit<}
@@ -21,11 +22,14 @@ use mir.Val.{Fits, toZ, ofZ}
 use Rattle.algebra.proofs.Solver.{reify}
 use Rattle.algebra.proofs.Machine.{Holds, of-small, of-cast, sub-holds}
 use Rattle.algebra.proofs.Order.{read≡, show≡, natAbs-below}
-use Rattle.model.specs.Error.{mostCells, mostSquared}
-use Rattle.model.specs.Ledger.{mostCount, changes, unequal, some, faults, wrongTotal, wrongFall, wrongStats}
-use Rattle.model.specs.Refusal.{firstOf}
 use Rattle.model.specs.declared.Stats.{Stats}
-use Rattle.model.proofs.State.{same, equal, at-least}
+use Rattle.model.specs.Basic.{AtMost}
+use Rattle.model.specs.Error.{Target, squaredError, mostCells, mostSquared}
+use Rattle.model.specs.Ledger.{mostCount, changes, dotTotal, unequal, some, faults}
+use Rattle.model.specs.Ledger.{wrongTotal, wrongFall, wrongStats}
+use Rattle.model.specs.Refusal.{firstOf, HalftoneFits}
+use Rattle.model.proofs.Halftone.{few-cells, squared-least, squared-most}
+use Rattle.model.proofs.State.{same, equal, at-least, total≤}
 
 -- a test that cannot fail holds
 pub holds : (b : Bool) → (b ≡ false → ⊥) → b ≡ true
@@ -122,3 +126,16 @@ module _ {cells : ℕ} {squared : ℤ} {s : Stats} (p : Passed cells squared s) 
   fall-is least most =
       ap₂ ltZ (sub-holds first-held (error-held least most) (lit< tt) .value)
       (of-cast w64 falls {k = 13458022323978240} (omega (arith, p .on-few, p .off-few, p .swaps-few)) (lit< tt) .value)
+
+-- ---- what is asked of a judged plate's table, dots and squared error
+pub plate-asked : {t : Target} {dots : List ℕ} {n count : ℕ} {squared : ℤ} → HalftoneFits t dots n → t .top ≡ 1
+    → AtMost 255 (t .gray) → count ≡ dotTotal dots → squared ≡ squaredError t dots
+    → (n ≤ mostCells) × (count ≤ mostCells) × (pos 0 ≤ℤ squared) × (squared ≤ℤ pos mostSquared)
+plate-asked {dots} f top bytes count squared =
+    let few = few-cells f in
+    let bits : AtMost 1 dots = subst (λ k. AtMost k dots) top (f .bits) in (
+      omega (arith, few, f .table-length),
+      omega (arith, few, f .dots-length, count, total≤ 1 dots bits),
+      rw squared (squared-least f),
+      rw squared (squared-most f bytes),
+    )

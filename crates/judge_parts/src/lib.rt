@@ -3,7 +3,8 @@
 ghost use mathlib.Core.List.{[], _∷_};
 ghost use mathlib.Core.Path.{_≡_};
 ghost use Prim.Native.Nat.{_≤_};
-ghost use Rattle.model.specs.Refusal.{firstOf, either, above, badSize, badRadius, badReach, badKind, badLength, badSum};
+ghost use Rattle.model.specs.Refusal.{firstOf, above, badSize, badRadius, badReach, badKind, badLength, badSum};
+ghost use Rattle.invariants.specs.Refusal.{either};
 ghost use Rattle.model.specs.Refusal.{badDot, badGiven, badMeasures};
 use model::Measures;
 use slices::sum;

@@ -5,7 +5,7 @@
 --   accept-fits                   where a legal change lowers E and is accepted, the state fits again
 use mathlib.Core.Path.{_≡_, refl, sym, _∙_, ap, subst}
 use mathlib.Core.List.{List, [], _∷_}
-use Prim.Native.Nat.{ℕ, zero, suc, _+_, _*_, _-_, _^_, _≤_, _<_}
+use Prim.Native.Nat.{ℕ, zero, suc, _+_, _*_, _-_, _≤_, _<_}
 use native.Mathlib.Nat.{not-suc-le-zero, mul-le-mul-right}
 use native.Mathlib.Decide.{ℕ-discrete}
 use native.Mathlib.Omega.{arith}
@@ -21,7 +21,7 @@ use Rattle.model.specs.Basic.{pick, AtMost, All}
 use Rattle.model.specs.Psf.{total}
 use Rattle.model.specs.Error.{Target, cells, filteredErrors, squaredError, mostSquared, Halftone}
 use Rattle.model.specs.Refusal.{HalftoneFits}
-use Rattle.model.specs.Ledger.{onCount, offCount, netOf, dotTotal, raised, changes}
+use Rattle.model.specs.Ledger.{onCount, offCount, netOf, dotTotal, raised, changes, mostCount}
 use Rattle.model.specs.State.{StateFits}
 use Rattle.model.specs.Change.{Setting, Move, Placed, made, toggle, swap, Legal, change}
 use Rattle.model.specs.Reference.{reference, accept, statsOf}
@@ -144,7 +144,7 @@ falls u n z e f h k = rw size (go (pos u *ℤ pos n) (pos u) h k)
         (omega (arith, read≤ ρ (search reify depth 40) h, read≤ ρ (search reify depth 40) k))
 
 -- and since E is never negative, they are few: 255 is the least step for which this follows
-few : (u n : ℕ) (z f : ℤ) → 255 ≤ u → z ≤ℤ pos mostSquared → pos 0 ≤ℤ f → (pos u *ℤ pos n) ≤ℤ (z -ℤ f) → n ≤ 2 ^ 44
+few : (u n : ℕ) (z f : ℤ) → 255 ≤ u → z ≤ℤ pos mostSquared → pos 0 ≤ℤ f → (pos u *ℤ pos n) ≤ℤ (z -ℤ f) → n ≤ mostCount
 few u n z f h k l m =
     let ρ : List ℤ = z ∷ f ∷ pos (u * n) ∷ [] in
     omega (arith, ordℤ, mul-le-mul-right n h, read≤ ρ (search reify depth 40) m)
@@ -187,7 +187,7 @@ module _ (t : Target) (wide : 0 < t .width) (step : 255 ≤ t .step) (dots : Lis
           (subst (λ z. (pos (t .step) *ℤ pos (changes (s .figures))) ≤ℤ (first -ℤ z)) (fits .error-is) (fits .fall))
           (change-least t dots v long (legal .placed) lower)
 
-      enough : suc (changes (s .figures)) ≤ 2 ^ 44
+      enough : suc (changes (s .figures)) ≤ mostCount
       enough =
           few (t .step) (suc (changes (s .figures))) first after step (fits .start-high)
           (squared-nonneg t wide (made dots (v .sets))) fall

@@ -1,7 +1,7 @@
 -- Laws of the refusals: how the judge of a list is made of judges of its parts, and what a call that draws no refusal
 -- was handed.
 --   first-passes                         what is not drawn is passed over, wherever it stands
---   by-first, by-either, by-second       a list judged in two parts
+--   by-first, by-second                  a list judged in two parts
 --   autocorrelation-fits, halftone-fits  what the autocorrelation, and what table and E were handed
 --   plate-fits, plate-none               1 to 7 are drawn exactly where the plate does not fit
 --   start-given, start-plate             what a start that is not refused was handed
@@ -17,7 +17,7 @@ use Rattle.model.specs.declared.Measures.{Measures}
 use Rattle.model.specs.Basic.{AtMost}
 use Rattle.model.specs.Psf.{total}
 use Rattle.model.specs.Screen.{startDots}
-use Rattle.model.specs.Refusal.{Refusal, _when_, firstOf, either, outside, differs, above}
+use Rattle.model.specs.Refusal.{Refusal, _when_, firstOf, outside, differs, above}
 use Rattle.model.specs.Refusal.{badDot, badGiven, handed}
 use Rattle.model.specs.Refusal.{autocorrelationRefusals, halftoneRefusals, startRefusals, inputRefusals}
 use Rattle.model.specs.Error.{targetOf}
@@ -66,30 +66,27 @@ first-passes [] (n when false ∷ k) j d = first-passes [] k j (d .1)
 first-passes (n when true ∷ l) k j d = refl
 first-passes (n when false ∷ l) k j d = first-passes l k j d
 
--- the first of two lists, by those of each
-first-append : (l k : List Refusal) → T (numbered l) → either (firstOf l) (firstOf k) ≡ firstOf (l ++ k)
-first-append [] k t = refl
-first-append (zero when b ∷ l) k t = absurd t
-first-append (suc n when true ∷ l) k t = refl
-first-append (suc n when false ∷ l) k t = first-append l k t
+-- the first of two lists: where the first draws a number, and where it draws none
+first-some : (l k : List Refusal) → (firstOf l ≡ 0 → ⊥) → firstOf l ≡ firstOf (l ++ k)
+first-some [] k h = absurd (h refl)
+first-some (n when true ∷ l) k h = refl
+first-some (n when false ∷ l) k h = first-some l k h
 
-pub either-first : (a b : ℕ) → (a ≡ 0 → ⊥) → a ≡ either a b
-either-first zero b h = absurd (h refl)
-either-first (suc a) b h = refl
+first-none : (l k : List Refusal) → T (numbered l) → firstOf l ≡ 0 → firstOf k ≡ firstOf (l ++ k)
+first-none [] k t z = refl
+first-none (zero when b ∷ l) k t z = absurd t
+first-none (suc n when true ∷ l) k t z = absurd (omega arith)
+first-none (suc n when false ∷ l) k t z = first-none l k t z
 
 -- ---- a list judged in two parts, l and then k
 module _ (l k : List Refusal) (t : T (numbered l)) {x : ℕ} (e : x ≡ firstOf l) where
   -- the first part draws a refusal
   pub by-first : (x ≡ 0 → ⊥) → x ≡ firstOf (l ++ k)
-  by-first h = either-first x (firstOf k) h ∙ ap (λ m. either m (firstOf k)) e ∙ first-append l k t
-
-  -- both parts were judged
-  pub by-either : {y z : ℕ} → y ≡ firstOf k → z ≡ either x y → z ≡ firstOf (l ++ k)
-  by-either f g = g ∙ ap₂ either e f ∙ first-append l k t
+  by-first h = e ∙ first-some l k (λ z. h (e ∙ z))
 
   -- the first part draws none
   pub by-second : x ≡ 0 → {y : ℕ} → y ≡ firstOf k → y ≡ firstOf (l ++ k)
-  by-second z {y} f = by-either f (ap (λ m. either m y) (sym z))
+  by-second z f = f ∙ first-none l k t (sym e ∙ z)
 
 -- ---- the conditions
 pub neither : (a b : Bool) → a || b ≡ false → (a ≡ false) × (b ≡ false)

@@ -75,12 +75,5 @@ filedSheet m vs = sheetOf m (take (numbers (body m)) vs)
 abbrev pub filedFigures : Measures → List ℕ → FiledFigures
 filedFigures m vs = figuresOf (drop (numbers (body m)) vs)
 
--- what follows line 2, from a place on: the end of the filed sheet with its figures, or the first refusal
-unfoldable pub filedEnd : Measures → List ℕ → ℕ → FiledEnd
-filedEnd m s at =
-    let p = parse (body m ++ figureParts) s at in
-    let e = ended s (placeOf p) in
-    record { refusal = e .refusal; at = e .at; figures = filedFigures m (p .values) }
-
 abbrev pub readFiled : List ℕ → (psf gray dots table : ℕ) → Taken
 readFiled s psf gray dots table = readByGrammar filedGrammar (filedRoom psf gray dots table) s

@@ -3,7 +3,7 @@
 use mathlib.Core.Bool.{Bool, true, false, _||_, _&&_, not}
 use mathlib.Core.List.{List, [], _∷_, _++_}
 use mathlib.Core.Path.{_≡_}
-use Prim.Native.Nat.{ℕ, zero, suc, _+_, _*_, _-_, _≤_}
+use Prim.Native.Nat.{ℕ, _+_, _*_, _-_, _≤_}
 use lib.Dec.{ltb, eqb}
 use lib.ListN.{length}
 use Rattle.model.specs.declared.Measures.{Measures}
@@ -20,11 +20,6 @@ abbrev pub firstOf : List Refusal → ℕ
 firstOf [] = 0
 firstOf (n when true ∷ l) = n
 firstOf (n when false ∷ l) = firstOf l
-
--- the first of two such numbers that is not 0
-abbrev pub either : ℕ → ℕ → ℕ
-either zero n = n
-either (suc m) n = suc m
 
 -- ---- the conditions
 -- outside 1 to 256

@@ -9,11 +9,10 @@ ghost use Rattle.model.specs.Calls.{Ends, buffers, started, startCall};
 ghost use Rattle.model.specs.Ledger.{freshStats};
 use filter_sums::filter_and_square;
 use judge_input::judge_start;
-use model::Figures;
 use model::Measures;
 use model::Started;
 use model::Stats;
-use slices::sum;
+use starts_screen::fresh;
 use starts_screen::start_dots;
 
 // the table of judged dots, and a fresh ledger
@@ -22,7 +21,7 @@ fn begin_plate(measures: Measures, psf: &[u8], gray: &[u8], dots: &[u8], table: 
     ensures { λ r. let t = targetFor measures (now (psf .entry)) (now (gray .entry)) in
         ⌜ (now (table .exit) ≡ filteredErrors t (now (dots .entry))) × (r ≡ freshStats t (now (dots .entry))) ⌝ }
 {
-    let error = filter_and_square(
+    let squared = filter_and_square(
         measures.width,
         measures.height,
         measures.radius,
@@ -31,17 +30,7 @@ fn begin_plate(measures: Measures, psf: &[u8], gray: &[u8], dots: &[u8], table: 
         dots,
         table,
     );
-    let count = sum(dots);
-    Stats {
-        error: error,
-        figures: Figures {
-            start_error: error,
-            start_dots: count as u64,
-            on: 0,
-            off: 0,
-            swaps: 0,
-        },
-    }
+    fresh(dots, squared)
 }
 
 // A start of the kind that the measures name: 0 all blank, 1 by the thresholds, 2 the dots given. That gray is made of

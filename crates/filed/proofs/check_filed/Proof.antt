@@ -143,7 +143,7 @@ module _ (c : tie.Else4) where
 
 returns-5 : tie.Need-returns-5
 returns-5 c =
-    let e : tie.Else4 = c .before in
+    let e : tie.Else4 = search in
     ends-as (sum-refused (whole (n e)) (inr (omega (arith, c .if5 .taken, sum-is e))))
 
 -- nor above 1,024
@@ -159,7 +159,8 @@ module _ (c : tie.Else5) where
 
 store-body-requires : tie.Need-store-body-requires
 store-body-requires c κs =
-    let w = n (e (c .before .before .before)) in
+    let v : tie.Else5 = search in
+    let w = n (e v) in
     (range (read (r w)), (blocks-good (whole w), roomy (whole w)))
 
 -- the sheet is stored
@@ -173,7 +174,8 @@ module _ (c : tie.After-store-body) where
   stands : frontOf (h (b (r w)) .measures) (c .store-body .last .1 .1 .1 .0) (c .store-body .last .1 .1 .1 .1 .0)
       (c .store-body .last .1 .1 .1 .1 .1 .0) ≡ sheet w
   stands =
-      ap (λ x. frontOf (h (b (r w)) .measures) (x .psf) (x .gray) (x .dots)) (c .store-body .ensures)
+      let put = c .store-body .ensures in
+      (λ i. frontOf (h (b (r w)) .measures) (put i .psf) (put i .gray) (put i .dots))
       ∙ in-fronts (whole w) (low v) (high v)
 
 judge-front-requires : tie.Need-judge-front-requires
@@ -200,7 +202,7 @@ same-length-4 c = search needs
 
 returns-6 : tie.Need-returns-6
 returns-6 c =
-    let f : tie.After-judge-front = c .before in
+    let f : tie.After-judge-front = search in
     let k : tie.After-store-body = search in
     let done = ends-as (checked (whole (w k)) (low (v k)) (high (v k))) in
     let put = k .store-body .ensures in

@@ -1,9 +1,9 @@
 -- `filter::autocorrelation` meets its contract: refused with the judge's number, or done.
 use borrow.Author.Needs.{needs}
-use mathlib.Core.Path.{sym, _∙_}
+use mathlib.Core.Path.{refl, sym, _∙_}
 use Rattle.model.specs.Calls.{autocorrelationCall}
 use Rattle.model.proofs.Refusal.{autocorrelation-fits}
-use Rattle.model.proofs.Calls.{is-refused, is-done}
+use Rattle.model.proofs.Calls.{ends-refused, ends-done}
 use Rattle.filter.proofs.autocorrelation.Statement.{statement}
 use Rattle.filter.proofs.autocorrelation.Tie as tie
 
@@ -12,9 +12,7 @@ judge-autocorrelation-requires c κs = search needs
 
 returns : tie.Need-returns
 unfolding autocorrelationCall
-returns c =
-    let (reply, left) = is-refused _ _ _ (c .before .judge-autocorrelation .ensures) (c .if1 .taken) in
-    record { reply-is = reply; left-is = left }
+returns c = ends-refused _ _ _ (c .before .judge-autocorrelation .ensures) (c .if1 .taken)
 
 autocorrelate-requires : tie.Need-autocorrelate-requires
 autocorrelate-requires c κs =
@@ -29,8 +27,7 @@ unfolding autocorrelationCall
 returns-2 c =
     let e : tie.Else1 = search in
     let taken = sym (e .before .judge-autocorrelation .ensures) ∙ e .if1 .left in
-    let (reply, left) = is-done _ _ _ taken (c .before .autocorrelate .ensures) in
-    record { reply-is = reply; left-is = left }
+    ends-done _ _ _ taken (record { reply-is = refl; left-is = (c .before .autocorrelate .ensures) })
 
 pub autocorrelation-spec : {M : Type 1} → statement M
 autocorrelation-spec =

@@ -1,9 +1,9 @@
 -- `filter::filtered_error` meets its contract: refused with the judge's number, or done.
 use borrow.Author.Needs.{needs}
-use mathlib.Core.Path.{sym, _∙_}
+use mathlib.Core.Path.{refl, sym, _∙_}
 use Rattle.model.specs.Calls.{filteredErrorCall}
 use Rattle.model.proofs.Refusal.{halftone-fits}
-use Rattle.model.proofs.Calls.{is-refused, is-done}
+use Rattle.model.proofs.Calls.{ends-refused, ends-done}
 use Rattle.filter.proofs.filtered_error.Statement.{statement}
 use Rattle.filter.proofs.filtered_error.Tie as tie
 
@@ -12,9 +12,7 @@ judge-halftone-requires c κs = search needs
 
 returns : tie.Need-returns
 unfolding filteredErrorCall
-returns c =
-    let (reply, left) = is-refused _ _ _ (c .before .judge-halftone .ensures) (c .if1 .taken) in
-    record { reply-is = reply; left-is = left }
+returns c = ends-refused _ _ _ (c .before .judge-halftone .ensures) (c .if1 .taken)
 
 filter-requires : tie.Need-filter-requires
 filter-requires c κs =
@@ -29,8 +27,7 @@ unfolding filteredErrorCall
 returns-2 c =
     let e : tie.Else1 = search in
     let taken = sym (e .before .judge-halftone .ensures) ∙ e .if1 .left in
-    let (reply, left) = is-done _ _ _ taken (c .before .filter .ensures) in
-    record { reply-is = reply; left-is = left }
+    ends-done _ _ _ taken (record { reply-is = refl; left-is = (c .before .filter .ensures) })
 
 pub filtered-error-spec : {M : Type 1} → statement M
 filtered-error-spec =

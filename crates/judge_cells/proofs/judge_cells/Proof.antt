@@ -3,7 +3,8 @@ use mathlib.Core.Bool.{Bool, true, false, _||_}
 use mathlib.Core.List.{[], _∷_}
 use mathlib.Core.Path.{_≡_, refl, _∙_, ap₂}
 use borrow.Author.Needs.{needs}
-use Rattle.model.specs.Refusal.{_when_, firstOf, either, off}
+use Rattle.model.specs.Refusal.{_when_, firstOf, off}
+use Rattle.invariants.specs.Refusal.{either}
 use Rattle.judge_cells.proofs.judge_cells.Statement.{statement}
 use Rattle.judge_cells.proofs.judge_cells.Tie as tie
 

@@ -5,7 +5,8 @@ use Prim.Native.Nat.{_*_}
 use borrow.Author.Needs.{needs}
 use lib.ListN.{length}
 use Rattle.model.specs.Refusal.{Refusal, badSize, badRadius, badLength, badSum, badDot, halftoneRefusal}
-use Rattle.model.proofs.Refusal.{by-first, by-either, by-second}
+use Rattle.model.proofs.Refusal.{by-first, by-second}
+use Rattle.invariants.proofs.Refusal.{by-either}
 use Rattle.judge_parts.proofs.Tests.{sized}
 use Rattle.judge_input.proofs.judge_halftone.Statement.{statement}
 use Rattle.judge_input.proofs.judge_halftone.Tie as tie

@@ -8,7 +8,8 @@ use borrow.Author.Needs.{needs}
 use lib.ListN.{length}
 use Rattle.model.specs.declared.Measures.{Measures}
 use Rattle.model.specs.Refusal.{Refusal, badLength, badDot, writeRefusal, badMeasures}
-use Rattle.model.proofs.Refusal.{by-first, by-either, by-second}
+use Rattle.model.proofs.Refusal.{by-first, by-second}
+use Rattle.invariants.proofs.Refusal.{by-either}
 use Rattle.judge_parts.proofs.Tests.{measured}
 use Rattle.judge_input.proofs.judge_sheet.Statement.{statement}
 use Rattle.judge_input.proofs.judge_sheet.Tie as tie

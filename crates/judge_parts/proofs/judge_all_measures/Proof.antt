@@ -2,7 +2,7 @@
 use mathlib.Core.List.{[], _∷_}
 use borrow.Author.Needs.{needs}
 use Rattle.model.specs.Refusal.{badSize, badRadius, badReach, badKind}
-use Rattle.model.proofs.Refusal.{by-either}
+use Rattle.invariants.proofs.Refusal.{by-either}
 use Rattle.judge_parts.proofs.judge_all_measures.Statement.{statement}
 use Rattle.judge_parts.proofs.judge_all_measures.Tie as tie
 

@@ -1,7 +1,7 @@
 -- `judge_state::judge_state` meets its contract: the local array's part is the table worked out afresh, and the ledger
 -- is held against the sums of the callees.
 use mathlib.Core.List.{List, _++_}
-use mathlib.Core.Path.{_≡_, sym, _∙_, ap, subst}
+use mathlib.Core.Path.{_≡_, refl, sym, _∙_, ap, subst}
 use Prim.Native.Nat.{_≤_}
 use native.Mathlib.Omega.{arith}
 use lib.IntN.{ℤ}
@@ -13,8 +13,8 @@ use Rattle.algebra.proofs.Machine.{read-back}
 use Rattle.model.specs.Error.{Target, targetFor, mostCells, filteredErrors, squaredError}
 use Rattle.model.specs.Refusal.{HalftoneFits}
 use Rattle.model.proofs.Error.{filtered-long}
-use Rattle.model.proofs.Halftone.{few-cells, squared-least, squared-most}
-use Rattle.model.proofs.State.{total≤}
+use Rattle.model.proofs.Halftone.{few-cells}
+use Rattle.judge_ledger.proofs.Tests.{plate-asked}
 use Rattle.judge_state.proofs.Fresh.{table-drawn, table-passed}
 use Rattle.judge_state.proofs.judge_state.Statement.{statement}
 use Rattle.judge_state.proofs.judge_state.Tie as tie
@@ -97,12 +97,8 @@ unfolding s
 judge-ledger-requires c κs =
     let k : tie.After-filter-and-square = search in
     let known : tie.After-shared-slice-known2 = search in
-    let f = s k .pre in (
-      held (s k),
-      omega (arith, c .sum .ensures, total≤ 1 (s k .args .dots .now) (f .bits), few-cells f, f .dots-length),
-      rw (error-is k) (squared-least f),
-      rw (error-is k) (squared-most f (record { each = λ i. omega (arith, known .shared-slice-known2 .given i) })),
-    )
+    plate-asked (s k .pre) refl (record { each = λ i. omega (arith, known .shared-slice-known2 .given i) })
+    (c .sum .ensures) (error-is k)
 
 returns-2 : tie.Need-returns-2
 unfolding s

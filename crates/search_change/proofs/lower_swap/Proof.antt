@@ -32,7 +32,7 @@ difference-requires c κs = search needs
 -- the two terms of the sum, as the locals hold them
 module _ (c : tie.After-difference) where
   abbrev s : tie.Start
-  s = c .before .before
+  s = search
 
   abbrev entry : ℕ → ℤ
   entry q = getD (s .args .table .now) q (pos 0)
@@ -63,12 +63,13 @@ shared-slice-read-result-2 c = search needs
 
 returns : tie.Need-returns
 returns c =
-    let d : tie.After-difference = c .before .before .before in
-    and-true _ _ (sym (sum-is d) ∙ c .before .before .if1 .taken)
+    let below : tie.Then1 = search in
+    let d : tie.After-difference = search in
+    and-true _ _ (sym (sum-is d) ∙ below .if1 .taken)
 
 returns-2 : tie.Need-returns-2
 returns-2 c =
-    let d : tie.After-difference = c .before in
+    let d : tie.After-difference = search in
     and-false (not (eqb (getD (s d .args .dots .now) (s d .args .m) 0) (getD (s d .args .dots .now) (s d .args .n) 0)))
     _ (sym (sum-is d) ∙ c .if1 .left)
 

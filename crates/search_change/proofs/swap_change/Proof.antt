@@ -21,7 +21,7 @@ difference-requires c κs = search needs
 -- the two terms of the sum
 module _ (c : tie.After-difference) where
   abbrev s : tie.Start
-  s = c .before .before
+  s = search
 
   abbrev entry : ℕ → ℤ
   entry q = getD (s .args .table .now) q (pos 0)

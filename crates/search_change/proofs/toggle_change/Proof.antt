@@ -41,12 +41,12 @@ module _ (s : tie.Start) where
   peak-held = of-small w32 (s .args .peak) (s .pre .1 .0) (lit< tt)
 
 signed-requires : tie.Need-signed-requires
-signed-requires c κs = le-trans (size-of (entry-held (c .before .before .before))) (lit≤ tt)
+signed-requires c κs = let s : tie.Start = search in le-trans (size-of (entry-held s)) (lit≤ tt)
 
 -- the two terms of the sum
 module _ (c : tie.After-signed) where
   abbrev s : tie.Start
-  s = c .before .before .before .before
+  s = search
 
   -- s(m)
   abbrev turn : ℤ
@@ -58,7 +58,7 @@ module _ (c : tie.After-signed) where
   first : Holds w32 (ofZ w32 (pos 2 *ℤ toZ w32 (ofZ w32 (c .signed .result)))) (pos 2 *ℤ turn *ℤ entry s) (2 * mostFiltered)
   first = named (sym (*ℤ-assoc (pos 2) turn (entry s))) (mul-holds (literal w32 2 tt) signed (lit< tt))
 
-  second : Holds w32 (ofZ w32 (pos 255 *ℤ toZ w32 (ofZ w32 (s .args .peak)))) (pos 255 *ℤ s .args .peak) 267386880
+  second : Holds w32 (ofZ w32 (pos 255 *ℤ toZ w32 (ofZ w32 (s .args .peak)))) (pos 255 *ℤ s .args .peak) mostFiltered
   second = mul-holds (literal w32 255 tt) (peak-held s) (lit< tt)
 
 mul-result : tie.Need-mul-result

@@ -9,7 +9,8 @@ use Rattle.algebra.proofs.Grid.{cell<}
 use Rattle.model.specs.Refusal.{firstOf, badCells, badPair}
 use Rattle.model.specs.Ledger.{wrongStats}
 use Rattle.model.specs.State.{Asked, swapAsked, badTable, swapRefusal}
-use Rattle.model.proofs.Refusal.{none, by-either}
+use Rattle.model.proofs.Refusal.{none}
+use Rattle.invariants.proofs.Refusal.{by-either}
 use Rattle.model.proofs.Later.{cells-inside}
 use Rattle.search_judge.proofs.Lists.{Later, Fits, state, input-fits, by-input, by-named, by-rest}
 use Rattle.search_judge.proofs.judge_swap.Statement.{statement}

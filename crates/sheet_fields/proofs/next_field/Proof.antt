@@ -1,7 +1,7 @@
 -- `sheet_fields::next_field` meets its contract.
 use borrow.Author.Needs.{needs}
 use borrow.Author.Tests.{eq-eqb, ne-eqb}
-use Rattle.model.specs.Format.{fieldNext}
+use Rattle.invariants.specs.Reading.{fieldNext}
 use Rattle.sheet_fields.proofs.next_field.Statement.{statement}
 use Rattle.sheet_fields.proofs.next_field.Tie as tie
 

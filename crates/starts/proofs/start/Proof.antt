@@ -1,11 +1,10 @@
 -- `starts::start` meets its contract: refused with the judge's number, or begun with the dots of its kind.
 use mathlib.Core.List.{List}
-use mathlib.Core.Path.{_≡_, sym, _∙_, ap₂, subst}
+use mathlib.Core.Path.{_≡_, sym, _∙_, subst}
 use Prim.Native.Nat.{ℕ}
 use native.Mathlib.Omega.{arith}
 use borrow.Author.Needs.{needs}
 use lib.ListN.{length}
-use Rattle.model.specs.Calls.{buffers}
 use Rattle.model.specs.Error.{targetFor}
 use Rattle.model.specs.Refusal.{HalftoneFits, startRefusal}
 use Rattle.model.specs.Screen.{startDots}
@@ -22,9 +21,8 @@ same-length c = search needs
 
 returns : tie.Need-returns
 returns c =
-    let known : tie.After-shared-slice-known2 = search in
-    let (reply, (dots, table)) = start-refused _ _ _ _ _ (c .before .judge-start .ensures) (c .if1 .taken) in (
-      record { reply-is = reply; left-is = ap₂ buffers dots table },
+    let known : tie.After-shared-slice-known2 = search in (
+      start-refused _ _ _ _ _ (c .before .judge-start .ensures) (c .if1 .taken),
       record { each = λ i. omega (arith, known .shared-slice-known2 .given i) },
     )
 
@@ -71,9 +69,8 @@ returns-2 c =
     let e : tie.Else1 = search in
     let k : tie.After-start-dots = search in
     let known : tie.After-shared-slice-known2 = search in
-    let is = c .before .begin-plate .ensures in
-    let (reply, (dots, table)) = start-done _ _ _ _ _ (taken e) (k .start-dots .ensures) (is .0) (is .1) in (
-      record { reply-is = reply; left-is = ap₂ buffers dots table },
+    let is = c .before .begin-plate .ensures in (
+      start-done _ _ _ _ _ (taken e) (k .start-dots .ensures) (is .0) (is .1),
       record { each = λ i. omega (arith, known .shared-slice-known2 .given i) },
     )
 
