@@ -296,7 +296,11 @@ abbrev pub checkOver : (bytes psf gray dots : List ℕ) (table verdict : List �
 checkOver bytes psf gray dots table verdict =
     overCount verdictSize verdict (checkBuffers psf gray dots table) (checkCall bytes psf gray dots table)
 
--- ---- pictures: width and height behind the pointers
+-- ---- pictures, by width and height
+abbrev pub sized : (width height : ℕ) → Size
+sized w h = record { width = w; height = h }
+
+-- behind the pointers: the same
 abbrev pub pictureBehind : Reply Size → ℕ × ℕ → ℕ × ℕ
 pictureBehind r (w, h) = (after (λ z. z .width) w r, after (λ z. z .height) h r)
 
