@@ -11,7 +11,7 @@
 use mathlib.Core.Bool.{true, false}
 use mathlib.Core.List.{List, [], _∷_}
 use mathlib.Core.Path.{_≡_, refl, sym, _∙_, ap, ap₂, subst}
-use Prim.Native.Nat.{ℕ, _+_, _*_, _≤_, _<_}
+use Prim.Native.Nat.{ℕ, _*_, _≤_, _<_}
 use native.Mathlib.Omega.{arith}
 use lib.IntN.{ℤ, pos, natAbs, _-ℤ_, _*ℤ_}
 use lib.ListN.{length, getD, set}
@@ -26,9 +26,9 @@ use Rattle.model.specs.declared.Stats.{Stats}
 use Rattle.model.specs.Basic.{AtMost, squareAt}
 use Rattle.model.specs.Psf.{peak}
 use Rattle.model.specs.Error.{Target, targetFor, cells, kernel, filteredError, filteredErrors, mostSquared, mostFiltered}
-use Rattle.model.specs.Refusal.{HalftoneFits, PlateFits}
+use Rattle.model.specs.Refusal.{HalftoneFits}
 use Rattle.model.specs.Change.{Move, sign, toggleSum, swapSum, toggle, swap, made, change}
-use Rattle.model.specs.Reference.{Tried, accepted, declined, reference, Performed, attempt}
+use Rattle.model.specs.Reference.{accepted, declined, reference, Performed, attempt}
 use Rattle.model.specs.Calls.{Reply, result, Ends, buffers, laterCall}
 use Rattle.model.proofs.Basic.{getD-tabulate}
 use Rattle.model.proofs.Error.{filtered-long}
@@ -38,8 +38,8 @@ use Rattle.model.proofs.Change.{toggle-change, swap-change}
 use Rattle.model.proofs.Reference.{halftone-made}
 use Rattle.model.proofs.Attempts.{attempt-cases}
 use Rattle.model.proofs.Calls.{ends-done}
-use Rattle.invariants.specs.Window.{Small, HoldsSquare, HoldsKernel, addWindow, mostKernel}
-use Rattle.invariants.specs.Plate.{Judged, Ready, OnPlate, cellOf, toggleAt, swapAt, Unlike}
+use Rattle.invariants.specs.Window.{Small, HoldsSquare, addWindow, mostKernel}
+use Rattle.invariants.specs.Plate.{Judged, Ready, OnPlate, cellOf, swapAt, Unlike}
 use Rattle.invariants.specs.Plate.{mostChange, Weighs, Countable, Leaves, accepting, replied}
 use Rattle.invariants.proofs.Window.{square-small, store-table, table-small}
 

@@ -14,7 +14,7 @@ use Prim.Native.Nat.{ℕ, zero, suc, _+_, _*_, _^_, _≤_, _<_}
 use native.Mathlib.Nat.{mul-le-mul-right}
 use native.Mathlib.Numerals.{add-one}
 use native.Mathlib.Omega.{arith}
-use lib.IntN.{ℤ, pos}
+use lib.IntN.{ℤ}
 use Rattle.algebra.proofs.Grid.{cell<, rows-apart}
 use Rattle.model.specs.declared.Cell.{Cell}
 use Rattle.model.specs.declared.Measures.{Measures}

@@ -15,7 +15,7 @@ use lib.ListN.{length}
 use Rattle.algebra.proofs.Order.{natAbs-above}
 use Rattle.model.specs.Basic.{AtMost}
 use Rattle.model.specs.Error.{Target, targetOf, cells, mostFiltered, mostCells, mostSquared, error}
-use Rattle.model.specs.Error.{filteredError, filteredErrors, squaredError, perceivedSquares}
+use Rattle.model.specs.Error.{filteredError, squaredError, perceivedSquares}
 use Rattle.model.specs.Refusal.{HalftoneFits, halftoneRefusal}
 use Rattle.model.proofs.Error.{filtered≤, squared≤, squared-nonneg, error≤, squared-perceived}
 use Rattle.model.proofs.Refusal.{halftone-again, halftone-fits}

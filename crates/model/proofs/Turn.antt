@@ -1,7 +1,7 @@
 -- Turning dots, each byte being 0 or 1.
 --   sign-is, unlike-sign  what the other byte adds is s(m), and so is what a dot gets from an unlike one
 --   toggle-sets           a toggle turns one dot
-use mathlib.Core.Path.{_≡_, refl, sym, _∙_, ap, ap₂}
+use mathlib.Core.Path.{_≡_, refl, _∙_, ap}
 use mathlib.Core.Bool.{Bool, true, false}
 use mathlib.Core.List.{List, [], _∷_}
 use Prim.Native.Nat.{ℕ, zero, suc, _-_, _≤_}

@@ -6,13 +6,12 @@ use mathlib.Core.Path.{_≡_}
 use Prim.Native.Nat.{ℕ}
 use lib.Dec.{leb}
 use lib.ListN.{getD, take, drop}
-use Rattle.model.specs.declared.FiledEnd.{FiledEnd}
 use Rattle.model.specs.declared.FiledFigures.{FiledFigures}
 use Rattle.model.specs.declared.Measures.{Measures}
 use Rattle.model.specs.Basic.{AtMost}
 use Rattle.model.specs.Text.{space, lineEnd}
 use Rattle.model.specs.Sheet.{Sheet, cellsOf, roomFor, sheetText, Valid}
-use Rattle.model.specs.Format.{Part, fixed, number, headFrom, body, parse, placeOf, ended, sheetOf}
+use Rattle.model.specs.Format.{Part, fixed, number, headFrom, body, sheetOf}
 use Rattle.model.specs.Program.{figuresName, figuresText}
 use Rattle.model.specs.Grammar.{numbers, Grammar, Taken, readByGrammar}
 

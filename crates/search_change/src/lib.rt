@@ -1,10 +1,8 @@
 // One change of a halftone: what a toggle and a swap would add to the squared error, decided by the table in a few
 // operations.
-ghost use mathlib.Core.Bool.{_&&_, not};
 ghost use mathlib.Core.Path.{_≡_};
 ghost use Prim.Native.Nat.{_+_, _*_, _<_, _≤_};
-ghost use lib.Dec.{eqb};
-ghost use lib.IntN.{pos, natAbs, _+ℤ_, _-ℤ_, _*ℤ_};
+ghost use lib.IntN.{pos, natAbs, _-ℤ_, _*ℤ_};
 ghost use lib.ListN.{length, getD};
 ghost use lib.Signed.{ltZ};
 ghost use Rattle.model.specs.Basic.{squareAt};

@@ -1,5 +1,5 @@
 -- `search::converge` meets its contract: refused with the judge's number, or the reference's settling.
-use mathlib.Core.Path.{_≡_, sym, _∙_}
+use mathlib.Core.Path.{sym, _∙_}
 use borrow.Author.Needs.{needs}
 use Rattle.model.specs.Calls.{laterCall, convergeCall}
 use Rattle.model.proofs.Calls.{ends-refused}

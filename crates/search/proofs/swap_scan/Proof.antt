@@ -1,5 +1,5 @@
 -- `search::swap_scan` meets its contract: refused with the judge's number, or the reference's swap scan.
-use mathlib.Core.Path.{_≡_, sym, _∙_}
+use mathlib.Core.Path.{sym, _∙_}
 use borrow.Author.Needs.{needs}
 use Rattle.model.specs.Scan.{swaps}
 use Rattle.model.specs.Calls.{laterCall, swapScanCall}

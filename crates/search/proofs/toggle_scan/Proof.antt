@@ -1,5 +1,5 @@
 -- `search::toggle_scan` meets its contract: refused with the judge's number, or the reference's toggle scan.
-use mathlib.Core.Path.{_≡_, sym, _∙_}
+use mathlib.Core.Path.{sym, _∙_}
 use borrow.Author.Needs.{needs}
 use Rattle.model.specs.Scan.{toggles}
 use Rattle.model.specs.Calls.{laterCall, toggleScanCall}

@@ -1,5 +1,5 @@
 -- `search_make::store` meets its contract: the byte is set, and the window is added with 255 times what it adds.
-use mathlib.Core.Path.{_≡_, refl, sym, _∙_, ap, ap₂, subst}
+use mathlib.Core.Path.{sym, _∙_, ap, subst}
 use Prim.Native.Nat.{ℕ, _*_, _≤_, _<_}
 use native.Mathlib.Omega.{arith}
 use borrow.Author.Needs.{needs}
@@ -8,12 +8,11 @@ use lib.IntN.{ℤ, pos, _-ℤ_, _*ℤ_}
 use lib.ListN.{length, getD, set}
 use mir.Syntax.{w32}
 use mir.Val.{toZ, ofZ}
-use Rattle.algebra.proofs.Grid.{cell-row, cell-column}
 use Rattle.algebra.proofs.Machine.{Holds, literal, of-cast, size-of, sub-fits, sub-holds, mul-fits, mul-holds}
 use Rattle.model.specs.Error.{Target, targetFor, filteredErrors}
 use Rattle.model.proofs.Error.{apart}
 use Rattle.model.proofs.Psf.{side}
-use Rattle.invariants.specs.Plate.{Judged, OnPlate, cellOf}
+use Rattle.invariants.specs.Plate.{Judged, OnPlate}
 use Rattle.invariants.specs.Window.{addWindow}
 use Rattle.invariants.proofs.Plate.{place-fits, on-dots, judged-small, store-window}
 use Rattle.invariants.proofs.Window.{scaled-by}

@@ -7,7 +7,7 @@ use Prim.Native.Nat.{ℕ, _*_, _-_, _^_, _≤_, _<_}
 use native.Mathlib.Omega.{arith}
 use borrow.Author.Needs.{needs}
 use lib.Dec.{lit<}
-use lib.IntN.{ℤ, pos, natAbs}
+use lib.IntN.{pos}
 use lib.ListN.{length, getD}
 use mir.Syntax.{w32}
 use mir.Val.{toZ, ofZ}
@@ -21,7 +21,6 @@ use Rattle.model.proofs.Attempts.{Sound, entry-sound}
 use Rattle.invariants.specs.Partners.{rowOf, columnOf, offsetOf, worthAt, HoldsOffsets, HoldsWorths}
 use Rattle.invariants.specs.Plate.{Judged, Ready, OnPlate, cellOf}
 use Rattle.invariants.specs.Trials.{visit, swapsAfter, lowersAt, Failed}
-use Rattle.invariants.specs.Window.{mostWorth}
 use Rattle.invariants.proofs.Partners.{worths-small}
 use Rattle.invariants.proofs.Plate.{ready-judged, place-fits}
 use Rattle.invariants.proofs.Trials.{all-failed, failed-next, failed-still}

@@ -1,6 +1,6 @@
 -- `search_swaps::swap_cell` meets its contract: the partner found stands on the plate, its dot unlike, and the swap with
 -- it is the one that a scan accepts there.
-use mathlib.Core.Bool.{Bool, true, false, true≢false, and-eq-true-iff}
+use mathlib.Core.Bool.{true, false, true≢false, and-eq-true-iff}
 use mathlib.Core.Path.{_≡_, sym, _∙_, ap, subst}
 use Prim.Native.Nat.{ℕ, _+_, _-_, _≤_, _<_}
 use native.Mathlib.Omega.{arith}
@@ -13,8 +13,8 @@ use Rattle.model.specs.Partners.{lands, partner}
 use Rattle.model.specs.Scan.{suits}
 use Rattle.model.proofs.Attempts.{entry-stats}
 use Rattle.invariants.specs.Partners.{rowOf, columnOf, offsetOf, HoldsOffsets}
-use Rattle.invariants.specs.Plate.{Judged, OnPlate, cellOf, Unlike, swapAt, Leaves}
-use Rattle.invariants.specs.Trials.{sweepOf, performed, visit, swapsAfter, lowersAt}
+use Rattle.invariants.specs.Plate.{OnPlate, cellOf, Unlike, swapAt}
+use Rattle.invariants.specs.Trials.{sweepOf, visit, lowersAt}
 use Rattle.invariants.proofs.Loop.{left-none}
 use Rattle.invariants.proofs.Plate.{ready-judged}
 use Rattle.invariants.proofs.Scanning.{visit-none, attempt-advances}

@@ -5,8 +5,8 @@ use Prim.Native.Nat.{_*_, _-_, _<_}
 use native.Mathlib.Omega.{arith}
 use Rattle.algebra.proofs.Grid.{cell<}
 use Rattle.model.specs.Error.{Target, targetFor}
-use Rattle.model.specs.Reference.{Reference, reference}
-use Rattle.model.specs.Scan.{Rule, toggles}
+use Rattle.model.specs.Reference.{reference}
+use Rattle.model.specs.Scan.{toggles}
 use Rattle.model.proofs.Attempts.{Sound, entry-sound}
 use Rattle.model.proofs.Scan.{Lawful, toggles-lawful}
 use Rattle.invariants.specs.Plate.{Ready, OnPlate, cellOf}
