@@ -105,8 +105,7 @@ pub fn judge_plate(
 ) -> Verdict
     requires { ⌜ PlateFits m (now psf) (now gray) (now dots) (length (now table)) ⌝ }
     requires { ⌜ AtMost mostFigure (figuresIn f) ⌝ }
-    ensures { λ r. ⌜ r ≡ verdictOf
-        (sheetWith m (now (psf .entry)) (now (gray .entry)) (now (dots .entry))) f ⌝ }
+    ensures { λ r. ⌜ r ≡ verdictOf (sheetWith m (now (psf .entry)) (now (gray .entry)) (now (dots .entry))) f ⌝ }
     ensures { λ _. ⌜ now (table .exit)
         ≡ filteredErrors (targetFor m (now (psf .entry)) (now (gray .entry))) (now (dots .entry)) ⌝ }
 {

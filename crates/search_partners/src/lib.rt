@@ -12,6 +12,7 @@ use model::Cell;
 use search_change::between;
 use search_change::peak;
 use slices::index;
+use std::num::wrapping_sub_usize;
 
 // the cell n further on in raster order, where the row has so many left
 pub fn ahead(width: usize, at: Cell, n: usize) -> Cell
@@ -64,25 +65,13 @@ pub fn partner_cell(width: usize, height: usize, at: Cell, code: u8) -> usize
         (partner width (cellOf width at) (offsetOf code)) (height * width) ⌝ }
 {
     let cells = height * width;
-    let y = at.row + (code / 16) as usize;
-    let x = at.col + (code % 16) as usize;
-    if y < 6 {
+    let row = wrapping_sub_usize(at.row + (code / 16) as usize, 6);
+    if height <= row {
         return cells;
     }
-    if x < 6 {
+    let col = wrapping_sub_usize(at.col + (code % 16) as usize, 6);
+    if width <= col {
         return cells;
     }
-    if height + 6 <= y {
-        return cells;
-    }
-    if width + 6 <= x {
-        return cells;
-    }
-    index(
-        width,
-        Cell {
-            row: y - 6,
-            col: x - 6,
-        },
-    )
+    index(width, Cell { row: row, col: col })
 }

@@ -17,9 +17,6 @@ use Rattle.filed_judge.proofs.judge_plate.Tie as tie
 filter-and-square-requires : tie.Need-filter-and-square-requires
 filter-and-square-requires c κs = let s : tie.Start = search in s .pre .0 .halftone
 
-cast-filed : tie.Need-cast-filed
-cast-filed c = let s : tie.Start = search in record { sfits = omega (arith, s .pre .1 .each 1) }
-
 -- once the table is filled
 module _ (k : tie.After-filter-and-square) where
   abbrev s : tie.Start
@@ -68,6 +65,9 @@ returns c =
       },
       k .filter-and-square .ensures .0,
     )
+
+cast-filed : tie.Need-cast-filed
+cast-filed c = let s : tie.Start = search in record { sfits = omega (arith, s .pre .1 .each 1) }
 
 pub judge-plate-spec : {M : Type 1} → statement M
 judge-plate-spec =

@@ -1,6 +1,7 @@
 -- `judge_ledger::judge_ledger` meets its contract: what the tests leave is said first, then each return is read off its
 -- tests.
 use mathlib.Core.Path.{_≡_, refl, sym, _∙_, ap}
+use Prim.Native.Nat.{_≤_}
 use native.Mathlib.Omega.{arith}
 use borrow.Author.Needs.{needs}
 use borrow.Author.Tests.{lt-ltb, le-ltb}
@@ -11,6 +12,7 @@ use mir.Syntax.{w64}
 use mir.Val.{toZ, ofZ}
 use Rattle.algebra.proofs.Machine.{read-back, sub-fits}
 use Rattle.model.specs.Error.{mostSquared}
+use Rattle.model.specs.Ledger.{mostCount}
 use Rattle.model.proofs.Refusal.{_nor_}
 use Rattle.model.proofs.State.{same}
 use Rattle.judge_ledger.proofs.Tests.{apart, sum-fits, drawn, undrawn, total-same, total-apart}
@@ -93,13 +95,14 @@ returns-7 c = drawn _ _ _ _ 6 (lt-ltb _ _ (c .if7 .taken))
 
 add-if8 : tie.Need-add-if8
 unfolding s
-add-if8 c = let e = c .before in sum-fits (omega (arith, s e .pre .1)) (passed e .off-few)
+add-if8 c =
+    let e : tie.Else7 = search in
+    let few : s e .args .dots ≤ mostCount = omega (arith, s e .pre .1) in search (sum-fits, few)
 
 add-if8-2 : tie.Need-add-if8-2
 unfolding s
 add-if8-2 c =
-    let e : tie.Else7 = search in
-    sum-fits (start-few (passed e) (s e .pre .0)) (passed e .on-few)
+    let e : tie.Else7 = search in search (sum-fits, start-few (passed e) (s e .pre .0))
 
 returns-8 : tie.Need-returns-8
 returns-8 c = drawn _ _ _ _ 7 (total-apart _ _ _ _ (c .if8 .taken))

@@ -90,6 +90,21 @@ mul-reach : tie.Need-mul-reach
 mul-reach c =
     let s : tie.Start = search in record { fits = omega (arith, judged s .plate .halftone .psf-fits .near) }
 
+returns : tie.Need-returns
+returns c =
+    let s : tie.Start = search in
+    let i : tie.After-index = search in
+    let a = s .args in
+    let dots = a .dots .now in (
+      ap (λ k. set dots k (a .byte)) (i .index .ensures),
+      c .before .add-window .ensures
+          ∙ ap (λ z. addWindow (a .measures .width) (2 * a .measures .radius) (a .c .now) z
+          (a .at .row) (a .at .col) (a .table .now))
+          (amount i .value ∙ ap (λ k. pos 255 *ℤ (pos (a .byte) -ℤ pos (getD dots k 0))) (i .index .ensures))
+          ∙ store-window (judged s) (on s) (a .byte)
+          ∙ ap (λ k. filteredErrors (t s) (set dots k (a .byte))) (sym (i .index .ensures)),
+    )
+
 add-window-requires : tie.Need-add-window-requires
 add-window-requires c κs =
     let s : tie.Start = search in
@@ -111,21 +126,6 @@ same-length c = search needs
 
 same-length-2 : tie.Need-same-length-2
 same-length-2 c = search needs
-
-returns : tie.Need-returns
-returns c =
-    let s : tie.Start = search in
-    let i : tie.After-index = search in
-    let a = s .args in
-    let dots = a .dots .now in (
-      ap (λ k. set dots k (a .byte)) (i .index .ensures),
-      c .before .add-window .ensures
-          ∙ ap (λ z. addWindow (a .measures .width) (2 * a .measures .radius) (a .c .now) z
-          (a .at .row) (a .at .col) (a .table .now))
-          (amount i .value ∙ ap (λ k. pos 255 *ℤ (pos (a .byte) -ℤ pos (getD dots k 0))) (i .index .ensures))
-          ∙ store-window (judged s) (on s) (a .byte)
-          ∙ ap (λ k. filteredErrors (t s) (set dots k (a .byte))) (sym (i .index .ensures)),
-    )
 
 pub store-spec : {M : Type 1} → statement M
 store-spec =
