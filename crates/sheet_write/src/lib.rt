@@ -108,8 +108,7 @@ fn head_length(m: Measures) -> usize
 
 // How long a sheet is.
 pub fn sheet_length(m: Measures, psf: &[u8], gray: &[u8], dots: &[u8]) -> usize
-    requires { ⌜ InRange m ⌝ }
-    requires { ⌜ Shaped (writtenSheet m (now psf) (now gray) (now dots)) ⌝ }
+    requires { ⌜ InRange m × Shaped (writtenSheet m (now psf) (now gray) (now dots)) ⌝ }
     ensures { λ r. ⌜ r ≡ length (sheetText (writtenSheet m
         (now (psf .entry)) (now (gray .entry)) (now (dots .entry)))) ⌝ }
 {
@@ -122,8 +121,7 @@ pub fn sheet_length(m: Measures, psf: &[u8], gray: &[u8], dots: &[u8]) -> usize
 
 // Puts a sheet at the front of an output that is long enough, and answers its length.
 pub fn put_sheet(out: &mut [u8], m: Measures, psf: &[u8], gray: &[u8], dots: &[u8]) -> usize
-    requires { ⌜ InRange m ⌝ }
-    requires { ⌜ Shaped (writtenSheet m (now psf) (now gray) (now dots)) ⌝ }
+    requires { ⌜ InRange m × Shaped (writtenSheet m (now psf) (now gray) (now dots)) ⌝ }
     requires { ⌜ length (sheetText (writtenSheet m (now psf) (now gray) (now dots))) ≤ length (now out) ⌝ }
     ensures { λ r. ⌜ Puts (sheetText (writtenSheet m (now (psf .entry)) (now (gray .entry)) (now (dots .entry))))
         (now (out .entry)) (now (out .exit)) 0 r ⌝ }

@@ -10,7 +10,7 @@ use Rattle.platemaker.proofs.pm_start.Statement.{statement}
 use Rattle.platemaker.proofs.pm_start.Tie as tie
 
 -- gray is made of bytes
-bytes : (k : tie.After-shared-slice-known3) → AtMost 255 (k .before .before .before .args .gray .now)
+bytes : (k : tie.After-shared-slice-known3) → let s : tie.Start = search in AtMost 255 (s .args .gray .now)
 bytes k = record { each = λ i. omega (arith, k .shared-slice-known3 .given i) }
 
 judge-numbers-requires : tie.Need-judge-numbers-requires

@@ -26,7 +26,7 @@ most c =
 put-sheet-requires : tie.Need-put-sheet-requires
 put-sheet-requires c κs =
     let s : tie.Start = search in
-    (s .pre .in-range, (s .pre .shaped, omega (arith, most search, s .pre .room)))
+    ((s .pre .in-range, s .pre .shaped), omega (arith, most search, s .pre .room))
 
 put-stats-requires : tie.Need-put-stats-requires
 put-stats-requires c κs =

@@ -46,7 +46,7 @@ put-sheet-requires : tie.Need-put-sheet-requires
 put-sheet-requires c κs =
     let e : tie.Else1 = search in
     let long : tie.After-sheet-length = search in
-    (shaped e .0, (shaped e .1, omega (arith, long .sheet-length .ensures)))
+    (shaped e, omega (arith, long .sheet-length .ensures))
 
 same-length : tie.Need-same-length
 same-length c = search needs

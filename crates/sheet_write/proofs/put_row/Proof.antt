@@ -54,7 +54,8 @@ loop-again c =
     (omega arith, left-next (l .loop .inv .1) rest (put .put-field .ensures))
 
 -- what is left after the loop is the last value
-last : (c : tie.After-loop Inv-loop μ-loop) → let vs = c .before .before .before .before .args .values .now in
+last : (c : tie.After-loop Inv-loop μ-loop) → let s : tie.Start Inv-loop μ-loop = search in
+    let vs = s .args .values .now in
     row (drop (c .before .loop .i) vs) ≡ field (getD vs (length vs - 1) 0) lineEnd
 last c =
     let s : tie.Start Inv-loop μ-loop = search in

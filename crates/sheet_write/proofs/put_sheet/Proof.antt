@@ -28,10 +28,10 @@ module _ (s : tie.Start) where
       + length (block psfName (sideOf (s .args .m)) psf)
       + length (block grayName (s .args .m .width) gray)
       + length (block dotsName (s .args .m .width) dots)
-  long = parts-length (s .args .m) psf gray dots (s .pre .0) (s .pre .1 .0)
+  long = parts-length (s .args .m) psf gray dots (s .pre .0 .0) (s .pre .0 .1)
 
   cells : (length gray ≤ mostCells) × (length dots ≤ mostCells)
-  cells = cells-most (s .args .m) psf gray dots (s .pre .0) (s .pre .1 .0)
+  cells = cells-most (s .args .m) psf gray dots (s .pre .0 .0) (s .pre .0 .1)
 
 put-head-requires : tie.Need-put-head-requires
 put-head-requires c κs = omega (arith, long search)
@@ -49,7 +49,7 @@ put-block-requires : tie.Need-put-block-requires
 unfolding psfName
 put-block-requires c κs =
     let s : tie.Start = search in
-    ((omega arith, psf-most (s .args .m) (psf s) (gray s) (dots s) (s .pre .0) (s .pre .1 .0)), omega (arith, long s))
+    ((omega arith, psf-most (s .args .m) (psf s) (gray s) (dots s) (s .pre .0 .0) (s .pre .0 .1)), omega (arith, long s))
 
 slice-aggregate-put-block-2 : tie.Need-slice-aggregate-put-block-2
 slice-aggregate-put-block-2 c = search needs
@@ -83,7 +83,7 @@ returns c =
     let b1 : tie.After-put-block = search in
     let head : tie.After-put-head = search in
     let s : tie.Start = search in
-    rw (sheet-parts (s .args .m) (psf s) (gray s) (dots s) (s .pre .0) (s .pre .1 .0))
+    rw (sheet-parts (s .args .m) (psf s) (gray s) (dots s) (s .pre .0 .0) (s .pre .0 .1))
     (puts-then (head .put-head .ensures)
     (puts-then (b1 .put-block .ensures) (puts-then (b2 .put-block2 .ensures) (b3 .put-block3 .ensures))))
 

@@ -34,13 +34,16 @@ loop-less c = omega arith
 
 loop-again : tie.Need-loop-again Inv-loop μ-loop
 loop-again c =
-    let i = c .before .before .loop .i in
-    let next = total-next (c .before .before .before .args .bytes .now) i (omega arith) in
+    let l : tie.At-loop Inv-loop μ-loop = search in
+    let i = l .loop .i in
+    let next = total-next (l .before .args .bytes .now) i (omega arith) in
     (omega arith, omega (arith, c .shared-slice-known .given i), omega (arith, next))
 
 returns : tie.Need-returns Inv-loop μ-loop
 unfolding total
-returns c = omega (arith, ap total (drop-of-length-le (c .before .before .args .bytes .now) (c .loop-test .left)))
+returns c =
+    let s : tie.Start Inv-loop μ-loop = search in
+    omega (arith, ap total (drop-of-length-le (s .args .bytes .now) (c .loop-test .left)))
 
 pub sum-spec : {M : Type 1} → statement M
 sum-spec =
