@@ -57,13 +57,19 @@ there-is w to k x y z h l e f =
     let rows : x * w ≡ (x - 6) * w + 6 * w = ap (λ n. n * w) (sym (sub-add-cancel h)) ∙ add-mul (x - 6) 6 w in
     omega arith
 
-pub offset-clear : (width : ℕ) {dots : List ℕ} {table : List ℤ} (code : ℕ) {worth : ℤ} (row col to : ℕ) {n : ℕ}
-    → to + (6 * width + 6) ≡ (row + rowOf code) * width + (col + columnOf code)
-    → SwapsClear dots table worth (cellAt width row col) to n
-    → OffsetClear width dots table code worth row col n
-offset-clear width code row col to e s =
+-- a run from the cell m on is clear at the offset of that code, its first partner standing at `to`
+pub record Clear (width m : ℕ) (dots : List ℕ) (table : List ℤ) (code : ℕ) (worth : ℤ) (n : ℕ) : Type 0 where
+  pub to : ℕ
+  pub place : to + (6 * width + 6) ≡ m + rowOf code * width + columnOf code
+  pub clear : SwapsClear dots table worth m to n
+
+pub offset-clear : (width : ℕ) {dots : List ℕ} {table : List ℤ} (code : ℕ) {worth : ℤ} (row col : ℕ) {n : ℕ}
+    → Clear width (cellAt width row col) dots table code worth n → OffsetClear width dots table code worth row col n
+offset-clear width code row col s =
+    let rows = add-mul row (rowOf code) width in
+    let e = s .place in
     record {
       each = λ k h top first.
-          rw (there-is width to k (row + rowOf code) (col + columnOf code) (col + k + columnOf code) top first e
-          (omega arith)) at (s .each k h);
+          rw (there-is width (s .to) k (row + rowOf code) (col + columnOf code) (col + k + columnOf code) top first
+          (omega arith) (omega arith)) at (s .clear .each k h);
     }

@@ -72,14 +72,13 @@ pub fn swaps_clear(
     ensures { λ r. ⌜ (r ≡ true → CellsClear width (now (dots .entry)) (now (table .entry))
         (now (codes .entry)) (now (worths .entry)) (at .row) (at .col) n) ⌝ }
 {
-    let row = at.row;
-    let col = at.col;
     let m = index(width, at);
     let back = 6 * width + 6;
-    let mut j: usize = 0;
-    while j < codes.len() {
+    let mut j = codes.len();
+    while 0 < j {
+        j -= 1;
         let code = codes[j];
-        let place = (row + (code / 16) as usize) * width + (col + (code % 16) as usize);
+        let place = m + (code / 16) as usize * width + (code % 16) as usize;
         if place < back {
             return false;
         }
@@ -90,7 +89,6 @@ pub fn swaps_clear(
         if any_swaps(dots, table, worths[j], m, to, n) {
             return false;
         }
-        j += 1;
     }
     true
 }
