@@ -1,5 +1,4 @@
 -- What the check answers by what it reads.
---   answered                an outcome as the contract asks for it
 --   head-refused, in-range  lines 1 and 2 are refused; else their measures are in their fields
 --   no-room, below-refused  12: the buffers are too short; what follows line 2 is refused
 --   below-taken             else what was read
@@ -19,28 +18,14 @@ use Rattle.model.specs.Calls.{refused, Outcome}
 use Rattle.model.specs.Sheet.{InRange}
 use Rattle.model.specs.Format.{headFrom, headBy, body, Parsed, parse}
 use Rattle.model.specs.Grammar.{Taken, readByGrammar}
-use Rattle.model.specs.Filed.{figureParts, filedGrammar, filedRoom, filedEnd, readFiled}
+use Rattle.model.specs.Filed.{figureParts, filedGrammar, filedRoom, readFiled}
+use Rattle.invariants.specs.Reading.{filedEnd}
 use Rattle.model.specs.FiledCalls.{CheckBuffers, checkCall}
 use Rattle.model.proofs.Format.{Inside, good-head}
 use Rattle.model.proofs.Agrees.{read-text}
 use Rattle.model.proofs.Grammar.{first-values}
 use Rattle.model.proofs.FiledReading.{filed-formed, inside-lines}
 use Rattle.model.proofs.FiledCheck.{check-unread}
-
-pub answered : {r v : Outcome Verdict CheckBuffers} → r ≡ v
-    → (v .reply ≡ r .reply)
-    × ((v .left .psf ≡ r .left .psf)
-    × ((v .left .gray ≡ r .left .gray) × ((v .left .dots ≡ r .left .dots) × (v .left .table ≡ r .left .table))))
-answered e = (
-  sym (ap (λ r. r .reply) e),
-  (
-    sym (ap (λ r. r .left .psf) e),
-    (
-      sym (ap (λ r. r .left .gray) e),
-      (sym (ap (λ r. r .left .dots) e), sym (ap (λ r. r .left .table) e)),
-    ),
-  ),
-)
 
 -- lines 1 and 2 that were read
 lines-in-range : (b : List ℕ) → let h = headBy (headFrom 2) b in

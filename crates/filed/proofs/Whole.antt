@@ -27,7 +27,8 @@ use Rattle.model.specs.Sheet.{Sheet, entriesOf, cellsOf, dotsIn, roomFor}
 use Rattle.model.specs.Format.{headFrom, headBy, body, Parsed, parse, sheetOf}
 use Rattle.model.specs.Grammar.{numbers, Taken}
 use Rattle.model.specs.Filed.{mostFigure, figuresIn, IsFiled, figureParts, filedRoom, filedSheet}
-use Rattle.model.specs.Filed.{filedFigures, filedEnd, readFiled}
+use Rattle.model.specs.Filed.{filedFigures, readFiled}
+use Rattle.invariants.specs.Reading.{filedEnd}
 use Rattle.model.specs.FiledCalls.{verdictOf, CheckBuffers, laid, checkCall}
 use Rattle.model.proofs.Basic.{zero-cases}
 use Rattle.model.proofs.Text.{and-true}

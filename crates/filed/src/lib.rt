@@ -6,10 +6,11 @@ ghost use lib.Seq.{sets};
 ghost use Rattle.model.specs.Basic.{AtMost};
 ghost use Rattle.model.specs.Error.{filteredErrors};
 ghost use Rattle.model.specs.Refusal.{PlateFits};
+ghost use Rattle.model.specs.Calls.{Ends};
 ghost use Rattle.model.specs.Sheet.{cellsOf, InRange};
 ghost use Rattle.model.specs.Program.{sheetTarget};
 ghost use Rattle.model.specs.Filed.{mostFigure, figuresIn};
-ghost use Rattle.model.specs.FiledCalls.{verdictOf, checkedOf, checkCall};
+ghost use Rattle.model.specs.FiledCalls.{verdictOf, checkedOf, checkBuffers, checkCall};
 ghost use Rattle.filed.specs.Front.{frontOf};
 use filed_judge::judge_plate;
 use filed_read::has_filed_room;
@@ -54,16 +55,9 @@ pub fn check_filed(
     dots: &mut [u8],
     table: &mut [i32],
 ) -> Checked
-    ensures { λ r. ⌜ checkedOf r ≡ checkCall (now (bytes .entry)) (now (psf .entry)) (now (gray .entry))
-        (now (dots .entry)) (now (table .entry)) .reply ⌝ }
-    ensures { λ _. ⌜ now (psf .exit) ≡ checkCall (now (bytes .entry)) (now (psf .entry)) (now (gray .entry))
-        (now (dots .entry)) (now (table .entry)) .left .psf ⌝ }
-    ensures { λ _. ⌜ now (gray .exit) ≡ checkCall (now (bytes .entry)) (now (psf .entry)) (now (gray .entry))
-        (now (dots .entry)) (now (table .entry)) .left .gray ⌝ }
-    ensures { λ _. ⌜ now (dots .exit) ≡ checkCall (now (bytes .entry)) (now (psf .entry)) (now (gray .entry))
-        (now (dots .entry)) (now (table .entry)) .left .dots ⌝ }
-    ensures { λ _. ⌜ now (table .exit) ≡ checkCall (now (bytes .entry)) (now (psf .entry)) (now (gray .entry))
-        (now (dots .entry)) (now (table .entry)) .left .table ⌝ }
+    ensures { λ r. ⌜ Ends (checkCall (now (bytes .entry)) (now (psf .entry)) (now (gray .entry)) (now (dots .entry))
+        (now (table .entry))) (checkedOf r) (checkBuffers (now (psf .exit)) (now (gray .exit)) (now (dots .exit))
+        (now (table .exit))) ⌝ }
 {
     let head = read_head(bytes, 2);
     if head.refusal != 0 {

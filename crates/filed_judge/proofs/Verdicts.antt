@@ -1,7 +1,8 @@
 -- The verdicts of a filed sheet, as the code comes to them.
 --   count-by, count-none  the dots at the start, and the number that stands for one below 0
---   unstarted, started    rest, by the number with which a start is refused
+--   measured-by           a plate whose table was filled and whose squared error was worked out
 --   figure-by             the figure, by the bits of the two numbers
+--   unstarted, started    rest, by the number with which a start is refused
 --   ledger-by             the ledger, by the number that 21 draws
 use mathlib.Core.Bool.{Bool, true, false, not}
 use mathlib.Core.List.{List, [], _∷_}
@@ -11,19 +12,23 @@ use native.Mathlib.Omega.{arith}
 use borrow.Author.Tests.{eqb-true, eqb-false}
 use lib.Dec.{eqb}
 use lib.IntN.{ℤ, pos, negsuc, _+ℤ_, _-ℤ_}
+use lib.ListN.{length}
 use mir.Syntax.{w64}
 use mir.Val.{toZ, ofZ}
 use Rattle.algebra.proofs.Solver.{reify}
 use Rattle.algebra.proofs.Order.{read≡, show≡}
+use Rattle.model.specs.declared.Measures.{Measures}
 use Rattle.model.specs.declared.Resting.the-variants.{Rests, Lowers, Unstarted}
 use Rattle.model.specs.declared.Stats.{Stats}
 use Rattle.model.specs.Basic.{pick}
-use Rattle.model.specs.Error.{Target, cells, squaredError}
+use Rattle.model.specs.Error.{Target, targetFor, cells, filteredErrors, squaredError}
 use Rattle.model.specs.Ledger.{countOf, dotTotal, unequal, wrongStats}
-use Rattle.model.specs.Refusal.{firstOf}
+use Rattle.model.specs.Refusal.{firstOf, PlateFits}
 use Rattle.model.specs.FiledCalls.{ledgerFits, restingOf}
+use Rattle.model.proofs.Error.{filtered-long}
 use Rattle.model.proofs.State.{same}
 use Rattle.judge_ledger.proofs.Tests.{apart}
+use Rattle.filed_rest.specs.Measured.{Measured}
 
 -- ---- the dots at the start: those on the plate - on + off
 module _ (n on off : ℕ) where
@@ -44,10 +49,21 @@ module _ (n on off : ℕ) where
           absurd (omega (arith, read≡ (pos n ∷ pos on ∷ pos off ∷ pos i ∷ []) (search reify depth 40) e))
       go (negsuc i) e = refl
 
+-- ---- a plate whose table was filled and whose squared error was worked out
+pub measured-by : {m : Measures} {psf gray dots : List ℕ} {n : ℕ} {table : List ℤ} {squared : ℤ}
+    → PlateFits m psf gray dots n → table ≡ filteredErrors (targetFor m psf gray) dots
+    → squared ≡ squaredError (targetFor m psf gray) dots → Measured m psf gray dots table squared
+measured-by {dots} f e z =
+    record {
+      plate = subst (PlateFits _ _ _ dots) (f .halftone .table-length ∙ sym (ap length e ∙ filtered-long _ dots)) f;
+      table-is = e;
+      squared-is = z;
+    }
+
 -- ---- the figure
-pub figure-by : (n : ℕ) (z : ℤ) → toZ w64 n ≡ pos n → toZ w64 (ofZ w64 z) ≡ z
-    → eqb n (ofZ w64 z) ≡ not (unequal (pos n) z)
-figure-by n z e f = go (eqb n (ofZ w64 z)) refl
+pub figure-by : (n : ℕ) (z : ℤ) {squared : ℤ} → toZ w64 n ≡ pos n → toZ w64 (ofZ w64 z) ≡ z → z ≡ squared
+    → eqb n (ofZ w64 z) ≡ not (unequal (pos n) squared)
+figure-by n z e f is = go (eqb n (ofZ w64 z)) refl ∙ ap (λ x. not (unequal (pos n) x)) is
   where
     go : (b : Bool) → eqb n (ofZ w64 z) ≡ b → b ≡ not (unequal (pos n) z)
     go true h =

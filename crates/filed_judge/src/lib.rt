@@ -4,26 +4,28 @@ ghost use Prim.Native.Nat.{_≤_};
 ghost use lib.IntN.{pos, _+ℤ_, _-ℤ_};
 ghost use lib.ListN.{length};
 ghost use Rattle.model.specs.Basic.{AtMost};
-ghost use Rattle.model.specs.Error.{targetFor, filteredErrors, squaredError};
+ghost use Rattle.model.specs.Error.{targetFor, filteredErrors, mostCells};
 ghost use Rattle.model.specs.Ledger.{countOf, dotTotal};
 ghost use Rattle.model.specs.Refusal.{startRefusal, PlateFits};
+ghost use Rattle.model.specs.Sheet.{sheetWith, cellsOf};
 ghost use Rattle.model.specs.Filed.{mostFigure, figuresIn};
 ghost use Rattle.model.specs.FiledCalls.{filedStats, ledgerFits, rests, restingOf, verdictOf};
+ghost use Rattle.filed_rest.specs.Measured.{Measured};
 use filed_rest::at_rest;
 use filter_sums::filter_and_square;
 use judge_input::judge_start;
 use judge_ledger::judge_ledger;
-use judge_parts::sum;
 use model::Figures;
 use model::FiledFigures;
 use model::Measures;
 use model::Resting;
 use model::Stats;
 use model::Verdict;
+use slices::sum;
 
 // the dots at the start: the dots on the plate - on + off; where that is below 0, the greatest number, which 21 refuses
 fn start_dots(count: usize, on: u64, off: u64) -> u64
-    requires { ⌜ (count ≤ 65536) × (on ≤ mostFigure) × (off ≤ mostFigure) ⌝ }
+    requires { ⌜ (count ≤ mostCells) × (on ≤ mostFigure) × (off ≤ mostFigure) ⌝ }
     ensures { λ r. ⌜ r ≡ countOf (pos count -ℤ pos on +ℤ pos off) ⌝ }
 {
     let most = count as u64 + off;
@@ -35,7 +37,7 @@ fn start_dots(count: usize, on: u64, off: u64) -> u64
 
 // the ledger as filed
 fn filed_stats(dots: &[u8], count: usize, f: FiledFigures) -> Stats
-    requires { ⌜ (count ≡ dotTotal (now dots)) × (count ≤ 65536) × AtMost mostFigure (figuresIn f) ⌝ }
+    requires { ⌜ (count ≡ dotTotal (now dots)) × (count ≤ mostCells) × AtMost mostFigure (figuresIn f) ⌝ }
     ensures { λ r. ⌜ r ≡ filedStats (now (dots .entry)) f ⌝ }
 {
     Stats {
@@ -56,18 +58,17 @@ fn ledger_fits(
     psf: &[u8],
     gray: &[u8],
     dots: &[u8],
+    table: &[i32],
     squared: i64,
     f: FiledFigures,
 ) -> bool
-    requires { ⌜ PlateFits m (now psf) (now gray) (now dots) (length (now dots)) ⌝ }
-    requires { ⌜ squared ≡ squaredError (targetFor m (now psf) (now gray)) (now dots) ⌝ }
-    requires { ⌜ AtMost mostFigure (figuresIn f) ⌝ }
+    requires { ⌜ Measured m (now psf) (now gray) (now dots) (now table) squared × AtMost mostFigure (figuresIn f) ⌝ }
     ensures { λ r. ⌜ r ≡ ledgerFits (targetFor m (now (psf .entry)) (now (gray .entry))) (now (dots .entry))
         (filedStats (now (dots .entry)) f) ⌝ }
 {
     let count = sum(dots);
     let stats = filed_stats(dots, count, f);
-    judge_ledger(dots.len(), squared, count, stats) == 0
+    judge_ledger(table.len(), squared, count, stats) == 0
 }
 
 // at rest or not, unless a start would refuse the sheet
@@ -79,12 +80,9 @@ fn resting(
     table: &[i32],
     squared: i64,
 ) -> Resting
-    requires { ⌜ PlateFits m (now psf) (now gray) (now dots) (length (now table)) ⌝ }
-    requires { ⌜ now table ≡ filteredErrors (targetFor m (now psf) (now gray)) (now dots) ⌝ }
-    requires { ⌜ squared ≡ squaredError (targetFor m (now psf) (now gray)) (now dots) ⌝ }
+    requires { ⌜ Measured m (now psf) (now gray) (now dots) (now table) squared ⌝ }
     ensures { λ r. ⌜ r ≡ restingOf (startRefusal m (now (psf .entry)) (now (gray .entry)) (now (dots .entry))
-        (length (now (table .entry))))
-        (rests (targetFor m (now (psf .entry)) (now (gray .entry))) (m .reach) (now (dots .entry))) ⌝ }
+        (cellsOf m)) (rests (targetFor m (now (psf .entry)) (now (gray .entry))) (m .reach) (now (dots .entry))) ⌝ }
 {
     let number = judge_start(m, psf, gray, dots, table.len());
     if number != 0 {
@@ -107,25 +105,18 @@ pub fn judge_plate(
 ) -> Verdict
     requires { ⌜ PlateFits m (now psf) (now gray) (now dots) (length (now table)) ⌝ }
     requires { ⌜ AtMost mostFigure (figuresIn f) ⌝ }
-    ensures { λ r. ⌜ r ≡ verdictOf (record {
-      measures = m;
-      psf = now (psf .entry);
-      gray = now (gray .entry);
-      dots = now (dots .entry);
-    }) f ⌝ }
+    ensures { λ r. ⌜ r ≡ verdictOf (sheetWith m (now (psf .entry)) (now (gray .entry)) (now (dots .entry))) f ⌝ }
     ensures { λ _. ⌜ now (table .exit)
         ≡ filteredErrors (targetFor m (now (psf .entry)) (now (gray .entry))) (now (dots .entry)) ⌝ }
 {
     let squared = filter_and_square(m.width, m.height, m.radius, psf, gray, dots, table);
     let filed = f.after as i64;
-    let ledger = ledger_fits(m, psf, gray, dots, squared, f);
-    let rest = resting(m, psf, gray, dots, table, squared);
     Verdict {
         measures: m,
         filed: filed,
         squared: squared,
         figure: filed == squared,
-        ledger: ledger,
-        rest: rest,
+        ledger: ledger_fits(m, psf, gray, dots, table, squared, f),
+        rest: resting(m, psf, gray, dots, table, squared),
     }
 }

@@ -15,9 +15,11 @@ use Rattle.model.specs.declared.Measures.{Measures}
 use Rattle.model.specs.declared.Place.{Place}
 use Rattle.model.specs.Program.{figuresName}
 use Rattle.model.specs.Format.{Part, fixed, number, body, place, fixedAt, field, fieldAt}
-use Rattle.model.specs.Format.{Parsed, parse, placeOf, fieldNext, ended}
+use Rattle.model.specs.Format.{Parsed, parse, placeOf, ended}
+use Rattle.invariants.specs.Reading.{fieldNext}
 use Rattle.model.specs.Grammar.{numbers}
-use Rattle.model.specs.Filed.{mostFigure, figureParts, figuresOf, filedEnd}
+use Rattle.model.specs.Filed.{mostFigure, figureParts, figuresOf}
+use Rattle.invariants.specs.Reading.{filedEnd}
 use Rattle.model.proofs.Basic.{zero-cases}
 use Rattle.model.proofs.Format.{parse-append, parse-refused, values-length}
 use Rattle.sheet_fields.proofs.Fields.{after, read-none, read-on}

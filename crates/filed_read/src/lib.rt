@@ -4,9 +4,10 @@ ghost use mathlib.Core.List.{[]};
 ghost use mathlib.Core.Path.{_≡_};
 ghost use Rattle.model.specs.Psf.{total};
 ghost use Rattle.model.specs.Sheet.{InRange};
-ghost use Rattle.model.specs.Format.{body, parse, sheetOf, fieldNext};
-ghost use Rattle.model.specs.Filed.{mostFigure, figureParts, figuresOf, filedEnd, filedRoom};
-use judge_parts::sum;
+ghost use Rattle.model.specs.Format.{body, parse, sheetOf};
+ghost use Rattle.invariants.specs.Reading.{fieldNext};
+ghost use Rattle.model.specs.Filed.{mostFigure, figureParts, figuresOf, filedRoom};
+ghost use Rattle.invariants.specs.Reading.{filedEnd};
 use model::Field;
 use model::FiledEnd;
 use model::FiledFigures;
@@ -21,6 +22,7 @@ use sheet_read::has_room;
 use sheet_read::judge_blocks;
 use sheet_read::judge_end;
 use sheet_read::side;
+use slices::sum;
 
 // one of the six figures, and the byte that ends it
 fn next_figure(s: &[u8], done: Field, end: u8) -> Field

@@ -1,6 +1,6 @@
 -- Trying a plate for rest by a toggle scan and a swap scan from a fresh ledger.
---   fresh-later                later calls accept a plate with its table and a fresh ledger
---   still                      a toggle scan that accepts nothing leaves all as it was
+--   fresh-ready                scans take a plate with a fresh ledger
+--   still-ready                and what a toggle scan that accepts nothing leaves
 --   not-at-rest, swaps-decide  where it accepts something there is no rest; else the swap scan decides
 use mathlib.Core.Bool.{Bool, false, _&&_}
 use mathlib.Core.List.{List}
@@ -9,14 +9,12 @@ use Prim.Native.Nat.{ℕ}
 use borrow.Author.Tests.{eq-eqb, ne-eqb}
 use lib.Dec.{eqb}
 use lib.IntN.{ℤ}
-use lib.ListN.{length}
 use Rattle.model.specs.declared.Measures.{Measures}
 use Rattle.model.specs.declared.Progress.{Progress}
 use Rattle.model.specs.declared.Stats.{Stats}
 use Rattle.model.specs.Basic.{AtMost}
 use Rattle.model.specs.Error.{Target, targetFor, cells, filteredErrors}
 use Rattle.model.specs.Ledger.{freshStats}
-use Rattle.model.specs.Refusal.{PlateFits}
 use Rattle.model.specs.State.{StateFits, LaterFits}
 use Rattle.model.specs.Reference.{Reference, reference, statsOf}
 use Rattle.model.specs.Scan.{toggles, swaps, Sweep, sweep, progressOf}
@@ -26,6 +24,10 @@ use Rattle.model.proofs.Halftone.{squared-least, squared-most}
 use Rattle.model.proofs.State.{fresh-fits}
 use Rattle.model.proofs.Attempts.{entry-sound}
 use Rattle.model.proofs.Scan.{sweep-still}
+use Rattle.invariants.specs.Plate.{Ready, Leaves}
+use Rattle.invariants.specs.Trials.{performed}
+use Rattle.invariants.specs.Window.{HoldsKernel}
+use Rattle.filed_rest.specs.Measured.{Measured}
 
 module _ (m : Measures) (psf gray dots : List ℕ) {s : Stats} (fresh : s ≡ freshStats (targetFor m psf gray) dots) where
   abbrev t : Target
@@ -42,47 +44,50 @@ module _ (m : Measures) (psf gray dots : List ℕ) {s : Stats} (fresh : s ≡ fr
   abbrev toggled : Sweep
   toggled = sweep t (toggles t) first
 
-  pub fresh-later : {table : List ℤ} → AtMost 255 gray → PlateFits m psf gray dots (length table)
-      → table ≡ filteredErrors t dots → LaterFits m psf gray dots table s
-  fresh-later bytes f e =
-      let h = f .halftone in
+  pub fresh-ready : {c table : List ℤ} {squared : ℤ} → Measured m psf gray dots table squared
+      → HoldsKernel (m .radius) psf c → AtMost 255 gray → Ready m psf gray c dots table s
+  fresh-ready f kernel bytes =
+      let h = f .plate .halftone in
+      let state = fresh-fits t dots (h .bits) (h .dots-length) (squared-least h) (squared-most h bytes) in
       record {
-        plate = f;
-        state =
-            subst (λ (X : Type 0). X) (λ i. StateFits t dots (sym e i) (sym fresh i))
-            (fresh-fits t dots (h .bits) (h .dots-length)
-            (squared-least (m .width) (m .height) (m .radius) psf gray dots h)
-            (squared-most (m .width) (m .height) (m .radius) psf gray dots h bytes));
+        later =
+            record {
+              plate = f .plate;
+              state =
+                  subst (λ (X : Type 0). X) (λ i. StateFits t dots (sym (f .table-is) i) (sym fresh i)) state;
+            };
+        kernel = kernel;
+        bytes = bytes;
       }
 
-  -- what the toggle scan leaves, where it accepts nothing
-  module _ {r : Progress} (answer : r ≡ progressOf t toggled) where
+  -- what the toggle scan leaves
+  module _ {r : Progress} {dots′ : List ℕ} {table′ : List ℤ} (left : Leaves t (performed t toggled) r dots′ table′) where
     changes-are : r .changes ≡ toggled .changes
     unfolding progressOf
-    changes-are = ap (λ x. x .changes) answer
+    changes-are = ap (λ x. x .changes) (left .answer-is)
 
-    pub still : {table : List ℤ} → LaterFits m psf gray dots table s → r .changes ≡ 0
-        → {dots′ : List ℕ} {table′ : List ℤ}
-        → dots′ ≡ toggled .after .dots → table′ ≡ filteredErrors t (toggled .after .dots)
-        → LaterFits m psf gray dots′ table′ (r .stats) × (reference dots′ (r .stats) ≡ reference dots s)
-    unfolding progressOf statsOf
-    still {table} f none {dots′} {table′} ed et = (
-      subst (λ (X : Type 0). X) (λ i. LaterFits m psf gray (sym dots-are i) (sym table-is i) (sym stats-are i))
-          (entry-sound m psf gray dots table s f),
-      ap₂ reference dots-are stats-are,
-    )
-      where
-        same : toggled .after ≡ first
-        same = sweep-still t (toggles t) first (cells t) (sym changes-are ∙ none) .0
+    -- where it accepts nothing, all is as it was
+    module _ (none : r .changes ≡ 0) where
+      same : toggled .after ≡ first
+      same = sweep-still t (toggles t) first (cells t) (sym changes-are ∙ none) .0
 
-        dots-are : dots′ ≡ dots
-        dots-are = ed ∙ ap (λ x. x .dots) same
+      dots-are : dots′ ≡ dots
+      dots-are = left .dots-are ∙ ap (λ x. x .dots) same
 
-        table-is : table′ ≡ filteredErrors t dots
-        table-is = et ∙ ap (λ x. filteredErrors t (x .dots)) same
+      stats-are : r .stats ≡ statsOf t first
+      unfolding progressOf
+      stats-are = ap (λ x. x .stats) (left .answer-is) ∙ ap (statsOf t) same
 
-        stats-are : r .stats ≡ statsOf t first
-        stats-are = ap (λ x. x .stats) answer ∙ ap (statsOf t) same
+      pub still-ready : {c table : List ℤ} → Ready m psf gray c dots table s → Ready m psf gray c dots′ table′ (r .stats)
+      still-ready {c} {table} f =
+          let table-is = left .table-is ∙ ap (λ x. filteredErrors t (x .dots)) same in
+          record {
+            later =
+                subst (λ (X : Type 0). X) (λ i. LaterFits m psf gray (sym dots-are i) (sym table-is i) (sym stats-are i))
+                (entry-sound m psf gray dots table s (f .later));
+            kernel = f .kernel;
+            bytes = f .bytes;
+          }
 
     module _ (reach : ℕ) where
       abbrev clear : Reference → Bool
@@ -94,11 +99,12 @@ module _ (m : Measures) (psf gray dots : List ℕ) {s : Stats} (fresh : s ≡ fr
           ap (λ b. b && clear first) (sym (ne-eqb (toggled .changes) 0 (λ e. h (changes-are ∙ e))))
           ∙ ap (λ p. eqb (sweep t (toggles t) p .changes) 0 && clear p) first-is
 
-      pub swaps-decide : r .changes ≡ 0 → {p : Reference} {q : Progress} → p ≡ reference dots s
-          → q ≡ progressOf t (sweep t (swaps t reach) p) → eqb (q .changes) 0 ≡ rests t reach dots
-      unfolding rests progressOf
-      swaps-decide none same e =
-          ap (λ x. eqb (x .changes) 0) e
-          ∙ ap clear same
+      pub swaps-decide : r .changes ≡ 0 → {q : Progress} {d : List ℕ} {e : List ℤ}
+          → Leaves t (performed t (sweep t (swaps t reach) (reference dots′ (r .stats)))) q d e
+          → eqb (q .changes) 0 ≡ rests t reach dots
+      unfolding rests progressOf statsOf
+      swaps-decide none swapped =
+          ap (λ x. eqb (x .changes) 0) (swapped .answer-is)
+          ∙ ap clear (ap₂ reference (dots-are none) (stats-are none))
           ∙ ap (λ b. b && clear first) (sym (eq-eqb (toggled .changes) 0 (sym changes-are ∙ none)))
           ∙ ap (λ p. eqb (sweep t (toggles t) p .changes) 0 && clear p) first-is

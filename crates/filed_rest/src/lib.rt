@@ -1,59 +1,16 @@
 // Whether a judged plate is at rest: a toggle scan and a swap scan of a copy accept nothing.
 ghost use mathlib.Core.Path.{_≡_};
-ghost use Prim.Native.Nat.{_≤_};
-ghost use lib.ListN.{length};
-ghost use Rattle.model.specs.Error.{targetFor, filteredErrors, squaredError};
-ghost use Rattle.model.specs.Ledger.{freshStats};
-ghost use Rattle.model.specs.Refusal.{PlateFits};
+ghost use Rattle.model.specs.Error.{targetFor};
 ghost use Rattle.model.specs.FiledCalls.{rests};
+ghost use Rattle.filed_rest.specs.Measured.{Measured};
 use filter_correlate::kernel;
-use judge_parts::sum;
-use model::Figures;
+use model::MOST_CELLS;
 use model::Measures;
-use model::Stats;
 use search_swaps::swap_all;
 use search_toggles::toggle_all;
-
-fn copy_dots(dots: &[u8], out: &mut [u8])
-    requires { ⌜ length (now out) ≡ length (now dots) ⌝ }
-    ensures { λ _. ⌜ now (out .exit) ≡ now (dots .entry) ⌝ }
-{
-    let mut i: usize = 0;
-    while i < dots.len() {
-        out[i] = dots[i];
-        i += 1;
-    }
-}
-
-fn copy_table(table: &[i32], out: &mut [i32])
-    requires { ⌜ length (now out) ≡ length (now table) ⌝ }
-    ensures { λ _. ⌜ now (out .exit) ≡ now (table .entry) ⌝ }
-{
-    let mut i: usize = 0;
-    while i < table.len() {
-        out[i] = table[i];
-        i += 1;
-    }
-}
-
-// a fresh ledger of dots with that squared error
-fn fresh(m: Measures, psf: &[u8], gray: &[u8], dots: &[u8], squared: i64) -> Stats
-    requires { ⌜ length (now dots) ≤ 65536 ⌝ }
-    requires { ⌜ squared ≡ squaredError (targetFor m (now psf) (now gray)) (now dots) ⌝ }
-    ensures { λ r. ⌜ r ≡ freshStats (targetFor m (now (psf .entry)) (now (gray .entry))) (now (dots .entry)) ⌝ }
-{
-    let count = sum(dots);
-    Stats {
-        error: squared,
-        figures: Figures {
-            start_error: squared,
-            start_dots: count as u64,
-            on: 0,
-            off: 0,
-            swaps: 0,
-        },
-    }
-}
+use slices::copy_bytes;
+use slices::copy_numbers;
+use starts_screen::fresh;
 
 // whether both scans accept nothing, of dots and a table that they may change
 fn scans_clear(
@@ -64,13 +21,11 @@ fn scans_clear(
     table: &mut [i32],
     squared: i64,
 ) -> bool
-    requires { ⌜ PlateFits m (now psf) (now gray) (now dots) (length (now table)) ⌝ }
-    requires { ⌜ now table ≡ filteredErrors (targetFor m (now psf) (now gray)) (now dots) ⌝ }
-    requires { ⌜ squared ≡ squaredError (targetFor m (now psf) (now gray)) (now dots) ⌝ }
+    requires { ⌜ Measured m (now psf) (now gray) (now dots) (now table) squared ⌝ }
     ensures { λ r. ⌜ r ≡ rests (targetFor m (now (psf .entry)) (now (gray .entry))) (m .reach) (now (dots .entry)) ⌝ }
 {
     let c = kernel(m.radius, psf);
-    let stats = fresh(m, psf, gray, dots, squared);
+    let stats = fresh(dots, squared);
     let toggled = toggle_all(m, psf, gray, &c, dots, table, stats);
     if toggled.changes != 0 {
         return false;
@@ -88,16 +43,14 @@ pub fn at_rest(
     table: &[i32],
     squared: i64,
 ) -> bool
-    requires { ⌜ PlateFits m (now psf) (now gray) (now dots) (length (now table)) ⌝ }
-    requires { ⌜ now table ≡ filteredErrors (targetFor m (now psf) (now gray)) (now dots) ⌝ }
-    requires { ⌜ squared ≡ squaredError (targetFor m (now psf) (now gray)) (now dots) ⌝ }
+    requires { ⌜ Measured m (now psf) (now gray) (now dots) (now table) squared ⌝ }
     ensures { λ r. ⌜ r ≡ rests (targetFor m (now (psf .entry)) (now (gray .entry))) (m .reach) (now (dots .entry)) ⌝ }
 {
     let n = dots.len();
-    let mut some_dots = [0u8; 65536];
-    let mut some_table = [0i32; 65536];
-    copy_dots(dots, &mut some_dots[..n]);
-    copy_table(table, &mut some_table[..n]);
+    let mut some_dots = [0u8; MOST_CELLS];
+    let mut some_table = [0i32; MOST_CELLS];
+    copy_bytes(dots, &mut some_dots[..n]);
+    copy_numbers(table, &mut some_table[..n]);
     scans_clear(
         m,
         psf,

@@ -4,7 +4,7 @@ use Prim.Native.Nat.{ℕ, _+_, _*_, _-_, _/_, _%_}
 use lib.IntN.{ℤ, pos}
 use lib.ListN.{length, getD}
 use Rattle.model.specs.Basic.{tabulate}
-use Rattle.model.specs.Window.{scattered}
+use Rattle.invariants.specs.Window.{scattered}
 
 module _ (r : ℕ) (p : List ℤ) where
   -- the first n entries of p, each with a window of p around its mirrored place

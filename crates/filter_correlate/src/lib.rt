@@ -6,10 +6,11 @@ ghost use lib.IntN.{pos};
 ghost use lib.ListN.{length};
 ghost use Rattle.model.specs.Psf.{autocorrelations};
 ghost use Rattle.model.specs.Refusal.{PsfFits};
-ghost use Rattle.model.specs.Window.{Small, HoldsKernel};
+ghost use Rattle.invariants.specs.Window.{Small, HoldsKernel};
 ghost use Rattle.filter_correlate.specs.Scatter.{mirrored};
 use filter_window::add_window;
-use filter_window::clear;
+use model::Cell;
+use slices::clear_numbers;
 
 // the bytes as signed numbers
 fn widen(bytes: &[u8], out: &mut [i32])
@@ -29,7 +30,7 @@ fn correlate(radius: usize, p: &[i32], out: &mut [i32])
     requires { ⌜ length (now out) ≡ (4 * radius + 1) * (4 * radius + 1) ⌝ }
     ensures { λ _. ⌜ now (out .exit) ≡ mirrored radius (now (p .entry)) ⌝ }
 {
-    clear(out);
+    clear_numbers(out);
     let side = 2 * radius + 1;
     let width = 4 * radius + 1;
     let middle = 3 * radius;
@@ -38,7 +39,7 @@ fn correlate(radius: usize, p: &[i32], out: &mut [i32])
         let row = middle - i / side;
         let col = middle - i % side;
         let amount = p[i];
-        add_window(out, width, width, row, col, radius, p, amount);
+        add_window(out, width, width, Cell { row, col }, radius, p, amount);
         i += 1;
     }
 }

@@ -1,15 +1,17 @@
 // The table of a judged plate, by two passes over whole rows, and the squared error by one pass over the table.
 ghost use mathlib.Core.Path.{_≡_};
-ghost use Prim.Native.Nat.{_+_, _*_, _<_, _≤_};
-ghost use lib.IntN.{pos, natAbs, _*ℤ_};
+ghost use Prim.Native.Nat.{_<_, _≤_};
+ghost use lib.IntN.{natAbs};
 ghost use lib.ListN.{length, getD};
-ghost use Rattle.algebra.specs.Sum.{sumTo};
-ghost use Rattle.model.specs.Basic.{tabulate, AtMost};
-ghost use Rattle.model.specs.Error.{errorOf, targetOf, filteredErrors, squaredError};
+ghost use Rattle.model.specs.Error.{errorOf, targetOf, mostCells, mostFiltered, filteredErrors, squaredError};
 ghost use Rattle.model.specs.Refusal.{HalftoneFits};
-ghost use Rattle.model.specs.Window.{Small, mostFiltered};
+ghost use Rattle.invariants.specs.Window.{Small};
+ghost use Rattle.filter_sums.specs.Sums.{Alike, errorsOf, weighed};
 use filter_passes::gather;
 use filter_passes::spread;
+
+// the most cells of a plate widened by r on each side: 262²
+const MOST_WIDENED: usize = 68644;
 
 // the error of a cell: 255 for a dot, less the gray
 fn error_at(gray: &[u8], dots: &[u8], n: usize) -> i32
@@ -21,10 +23,8 @@ fn error_at(gray: &[u8], dots: &[u8], n: usize) -> i32
 
 // the error of each cell
 fn errors(gray: &[u8], dots: &[u8], out: &mut [i32])
-    requires { ⌜ (length (now dots) ≡ length (now gray)) × (length (now out) ≡ length (now gray))
-        × AtMost 1 (now dots) ⌝ }
-    ensures { λ _. ⌜ now (out .exit)
-        ≡ tabulate (length (now (gray .entry))) (errorOf 255 (now (gray .entry)) (now (dots .entry))) ⌝ }
+    requires { ⌜ Alike (now gray) (now dots) (length (now out)) ⌝ }
+    ensures { λ _. ⌜ now (out .exit) ≡ errorsOf (now (gray .entry)) (now (dots .entry)) ⌝ }
 {
     let mut n: usize = 0;
     while n < gray.len() {
@@ -36,10 +36,8 @@ fn errors(gray: &[u8], dots: &[u8], out: &mut [i32])
 
 // Σ e(m) × T(m) over the cells, the T(m) being in the table
 fn weigh(gray: &[u8], dots: &[u8], table: &[i32]) -> i64
-    requires { ⌜ (length (now dots) ≡ length (now gray)) × (length (now table) ≡ length (now gray)) ⌝ }
-    requires { ⌜ (length (now gray) ≤ 65536) × AtMost 1 (now dots) × Small mostFiltered (now table) ⌝ }
-    ensures { λ r. ⌜ r ≡ sumTo (length (now (gray .entry))) (λ m.
-        errorOf 255 (now (gray .entry)) (now (dots .entry)) m *ℤ getD (now (table .entry)) m (pos 0)) ⌝ }
+    requires { ⌜ Alike (now gray) (now dots) (length (now table)) × Small mostFiltered (now table) ⌝ }
+    ensures { λ r. ⌜ r ≡ weighed (now (gray .entry)) (now (dots .entry)) (now (table .entry)) ⌝ }
 {
     let mut sum: i64 = 0;
     let mut m: usize = 0;
@@ -60,11 +58,11 @@ pub fn filter(
     dots: &[u8],
     table: &mut [i32],
 )
-    requires { ⌜ HalftoneFits width height radius (now psf) (now gray) (now dots) (length (now table)) ⌝ }
-    ensures { λ _. ⌜ now (table .exit) ≡ filteredErrors
-        (targetOf width height radius (now (psf .entry)) (now (gray .entry))) (now (dots .entry)) ⌝ }
+    requires { ⌜ HalftoneFits (targetOf width height radius (now psf) (now gray)) (now dots) (length (now table)) ⌝ }
+    ensures { λ _. let t = targetOf width height radius (now (psf .entry)) (now (gray .entry)) in
+        ⌜ now (table .exit) ≡ filteredErrors t (now (dots .entry)) ⌝ }
 {
-    let mut g = [0i32; 68644];
+    let mut g = [0i32; MOST_WIDENED];
     let n = (height + 2 * radius) * (width + 2 * radius);
     errors(gray, dots, table);
     spread(width, height, radius, psf, table, &mut g[..n]);
@@ -81,11 +79,9 @@ pub fn filter_and_square(
     dots: &[u8],
     table: &mut [i32],
 ) -> i64
-    requires { ⌜ HalftoneFits width height radius (now psf) (now gray) (now dots) (length (now table)) ⌝ }
-    ensures { λ _. ⌜ now (table .exit) ≡ filteredErrors
-        (targetOf width height radius (now (psf .entry)) (now (gray .entry))) (now (dots .entry)) ⌝ }
-    ensures { λ r. ⌜ r ≡ squaredError
-        (targetOf width height radius (now (psf .entry)) (now (gray .entry))) (now (dots .entry)) ⌝ }
+    requires { ⌜ HalftoneFits (targetOf width height radius (now psf) (now gray)) (now dots) (length (now table)) ⌝ }
+    ensures { λ r. let t = targetOf width height radius (now (psf .entry)) (now (gray .entry)) in
+        ⌜ (now (table .exit) ≡ filteredErrors t (now (dots .entry))) × (r ≡ squaredError t (now (dots .entry))) ⌝ }
 {
     filter(width, height, radius, psf, gray, dots, table);
     weigh(gray, dots, table)
@@ -101,8 +97,8 @@ pub fn square(
     dots: &[u8],
     scratch: &mut [i32],
 ) -> i64
-    requires { ⌜ HalftoneFits width height radius (now psf) (now gray) (now dots) (length (now gray)) ⌝ }
-    requires { ⌜ 65536 ≤ length (now scratch) ⌝ }
+    requires { ⌜ HalftoneFits (targetOf width height radius (now psf) (now gray)) (now dots) (length (now gray))
+        × (mostCells ≤ length (now scratch)) ⌝ }
     ensures { λ r. ⌜ r ≡ squaredError
         (targetOf width height radius (now (psf .entry)) (now (gray .entry))) (now (dots .entry)) ⌝ }
 {

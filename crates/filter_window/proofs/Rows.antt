@@ -18,7 +18,7 @@ use mir.Syntax.{w64}
 use mir.Val.{Fits}
 use Rattle.algebra.proofs.Grid.{rows-apart, row<, column<}
 use Rattle.model.specs.Basic.{squareAt}
-use Rattle.model.specs.Window.{addWindow}
+use Rattle.invariants.specs.Window.{addWindow}
 use Rattle.model.proofs.Basic.{length-tabulate, getD-tabulate, Far, squareAt-inside, squareAt-outside}
 use Rattle.filter_window.specs.Run.{Ran}
 

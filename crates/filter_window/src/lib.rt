@@ -1,11 +1,12 @@
-// The window update of a table: each cell near one cell gains an amount times a kernel at its offset. And a table cleared.
+// The window update of a table: each cell near one cell gains an amount times a kernel at its offset.
 ghost use mathlib.Core.Path.{_≡_};
 ghost use Prim.Native.Nat.{ℕ, _+_, _*_, _-_, _<_, _≤_, min};
 ghost use lib.ListN.{length, getD};
 ghost use lib.IntN.{pos, natAbs};
-ghost use Rattle.model.specs.Basic.{tabulate};
-ghost use Rattle.model.specs.Window.{addWindow, Small, Scaled, mostFiltered};
+ghost use Rattle.invariants.specs.Window.{addWindow, Small, Scaled};
+ghost use Rattle.model.specs.Error.{mostFiltered};
 ghost use Rattle.filter_window.specs.Run.{Ran};
+use model::Cell;
 
 // A run of n entries of c, times the amount, is added to the table's entries from `at` on.
 pub fn add_run(table: &mut [i32], at: usize, c: &[i32], from: usize, n: usize, amount: i32)
@@ -40,44 +41,33 @@ pub fn high(x: usize, reach: usize, n: usize) -> usize
     if end < n { end } else { n }
 }
 
-// Every cell q within the reach of the cell m at (row, col) gains amount × c(q - m); the others stay.
+// Every cell q within the reach of the cell m gains amount × c(q - m); the others stay.
 pub fn add_window(
     table: &mut [i32],
     width: usize,
     height: usize,
-    row: usize,
-    col: usize,
+    at: Cell,
     reach: usize,
     c: &[i32],
     amount: i32,
 )
-    requires { ⌜ (row < height) × (col < width) × (width ≤ 256) × (height ≤ 256) × (reach ≤ 6) ⌝ }
+    requires { ⌜ (at .row < height) × (at .col < width) × (width ≤ 256) × (height ≤ 256) × (reach ≤ 6) ⌝ }
     requires { ⌜ (length (now table) ≡ height * width) × ((2 * reach + 1) * (2 * reach + 1) ≤ length (now c)) ⌝ }
     requires { ⌜ Small mostFiltered (now table) ⌝ }
     requires { ⌜ Scaled mostFiltered amount (now c) ⌝ }
-    ensures { λ _. ⌜ now (table .exit) ≡ addWindow width reach (now (c .entry)) amount row col (now (table .entry)) ⌝ }
+    ensures { λ _. ⌜ now (table .exit)
+        ≡ addWindow width reach (now (c .entry)) amount (at .row) (at .col) (now (table .entry)) ⌝ }
 {
-    let left = low(col, reach);
-    let right = high(col, reach, width);
-    let bottom = high(row, reach, height);
+    let left = low(at.col, reach);
+    let right = high(at.col, reach, width);
+    let bottom = high(at.row, reach, height);
     let side = 2 * reach + 1;
     let n = right - left;
-    let mut y = low(row, reach);
+    let mut y = low(at.row, reach);
     while y < bottom {
-        let at = y * width + left;
-        let from = (y + reach - row) * side + (left + reach - col);
-        add_run(table, at, c, from, n, amount);
+        let to = y * width + left;
+        let from = (y + reach - at.row) * side + (left + reach - at.col);
+        add_run(table, to, c, from, n, amount);
         y += 1;
-    }
-}
-
-// every entry 0
-pub fn clear(table: &mut [i32])
-    ensures { λ _. ⌜ now (table .exit) ≡ tabulate (length (now (table .entry))) (λ q. pos 0) ⌝ }
-{
-    let mut q: usize = 0;
-    while q < table.len() {
-        table[q] = 0;
-        q += 1;
     }
 }

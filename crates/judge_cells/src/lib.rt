@@ -7,33 +7,28 @@ ghost use lib.ListN.{length};
 ghost use Rattle.model.specs.Refusal.{firstOf, gap, badCell, badCells, badPair};
 ghost use Rattle.model.specs.State.{badLike};
 use judge_parts::first;
+use model::Cell;
 
-// 8
-pub fn judge_cell(width: usize, height: usize, row: usize, col: usize) -> u32
-    ensures { λ r. ⌜ r ≡ firstOf (badCell width height row col ∷ []) ⌝ }
+// 8: a cell off the plate
+pub fn judge_cell(width: usize, height: usize, at: Cell) -> u32
+    ensures { λ r. ⌜ r ≡ firstOf (badCell width height (at .row) (at .col) ∷ []) ⌝ }
 {
-    if height <= row {
+    if height <= at.row {
         return 8;
     }
-    if width <= col {
+    if width <= at.col {
         return 8;
     }
     0
 }
 
 // 8 of a swap, which names two cells
-pub fn judge_cells(
-    width: usize,
-    height: usize,
-    row: usize,
-    col: usize,
-    row2: usize,
-    col2: usize,
-) -> u32
-    ensures { λ r. ⌜ r ≡ firstOf (badCells width height row col row2 col2 ∷ []) ⌝ }
+pub fn judge_cells(width: usize, height: usize, at: Cell, to: Cell) -> u32
+    ensures { λ r. ⌜ r ≡ firstOf
+        (badCells width height (at .row) (at .col) (to .row) (to .col) ∷ []) ⌝ }
 {
-    let one = judge_cell(width, height, row, col);
-    let other = judge_cell(width, height, row2, col2);
+    let one = judge_cell(width, height, at);
+    let other = judge_cell(width, height, to);
     first(one, other)
 }
 
@@ -44,12 +39,12 @@ fn distance(a: usize, b: usize) -> usize
     if a < b { b - a } else { a - b }
 }
 
-// 9
-pub fn judge_pair(reach: usize, row: usize, col: usize, row2: usize, col2: usize) -> u32
-    ensures { λ r. ⌜ r ≡ firstOf (badPair reach row col row2 col2 ∷ []) ⌝ }
+// 9: a cell with itself, or with one beyond the reach
+pub fn judge_pair(reach: usize, at: Cell, to: Cell) -> u32
+    ensures { λ r. ⌜ r ≡ firstOf (badPair reach (at .row) (at .col) (to .row) (to .col) ∷ []) ⌝ }
 {
-    let down = distance(row, row2);
-    let across = distance(col, col2);
+    let down = distance(at.row, to.row);
+    let across = distance(at.col, to.col);
     if reach < down {
         return 9;
     }
@@ -65,7 +60,7 @@ pub fn judge_pair(reach: usize, row: usize, col: usize, row2: usize, col2: usize
     9
 }
 
-// 22, of two cells on the plate
+// 22: equal dots, of two cells on the plate
 pub fn judge_like(dots: &[u8], m: usize, n: usize) -> u32
     requires { ⌜ (m < length (now dots)) × (n < length (now dots)) ⌝ }
     ensures { λ r. ⌜ r ≡ firstOf (badLike (now (dots .entry)) m n ∷ []) ⌝ }

@@ -4,15 +4,17 @@ ghost use mathlib.Core.Path.{_≡_};
 ghost use Prim.Native.Nat.{_≤_};
 ghost use lib.IntN.{pos};
 ghost use lib.Signed.{_≤ℤ_};
-ghost use Rattle.model.specs.Error.{mostSquared};
+ghost use Rattle.model.specs.Error.{mostCells, mostSquared};
 ghost use Rattle.model.specs.Ledger.{wrongStats};
 ghost use Rattle.model.specs.Refusal.{firstOf};
+use model::MOST_COUNT;
+use model::MOST_SQUARED;
 use model::Stats;
 
 // 21, of a plate of that many cells, whose squared error and number of dots are these. The figures of the ledger may be
 // any: each is compared before it is reckoned with.
 pub fn judge_ledger(cells: usize, error: i64, dots: usize, stats: Stats) -> u32
-    requires { ⌜ (cells ≤ 65536) × (dots ≤ 65536) × (pos 0 ≤ℤ error) × (error ≤ℤ pos mostSquared) ⌝ }
+    requires { ⌜ (cells ≤ mostCells) × (dots ≤ mostCells) × (pos 0 ≤ℤ error) × (error ≤ℤ pos mostSquared) ⌝ }
     ensures { λ r. ⌜ r ≡ firstOf (wrongStats cells 255 error dots stats ∷ []) ⌝ }
 {
     if stats.error != error {
@@ -21,16 +23,16 @@ pub fn judge_ledger(cells: usize, error: i64, dots: usize, stats: Stats) -> u32
     if stats.figures.start_error < 0 {
         return 21;
     }
-    if 4468483974758400 < stats.figures.start_error {
+    if MOST_SQUARED < stats.figures.start_error {
         return 21;
     }
-    if 17592186044416 < stats.figures.on {
+    if MOST_COUNT < stats.figures.on {
         return 21;
     }
-    if 17592186044416 < stats.figures.off {
+    if MOST_COUNT < stats.figures.off {
         return 21;
     }
-    if 17592186044416 < stats.figures.swaps {
+    if MOST_COUNT < stats.figures.swaps {
         return 21;
     }
     if (cells as u64) < stats.figures.start_dots {

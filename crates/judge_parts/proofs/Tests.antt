@@ -1,8 +1,8 @@
 -- What the proofs of the judges share.
---   total-next              the sum of a list of bytes from an index on, as a loop takes it
---   above-here, above-next  whether one of them is above a bound, likewise
+--   above-here, above-next  whether one of the bytes from an index on is above a bound, as a loop takes it
 --   tests                   the laws by which a return is read off its tests
---   sized, psf-most         what is known once 1 and 2 are judged; once 5 is
+--   sized, measured         what is known once 1 and 2 are judged; once 1 to 4 are
+--   psf-most                once 5 is
 use mathlib.Core.Bool.{true, not}
 use mathlib.Core.List.{List, [], _∷_}
 use mathlib.Core.Path.{_≡_}
@@ -17,15 +17,13 @@ use lib.Seq.{drop-cons}
 use mir.Syntax.{w64}
 use mir.Val.{Fits}
 use Rattle.algebra.proofs.Machine.{factors-fit}
-use Rattle.model.specs.Psf.{total}
-use Rattle.model.specs.Refusal.{Refusal, firstOf, differs, above, badSize, badRadius, badLength}
+use Rattle.model.specs.Error.{mostCells}
+use Rattle.model.specs.Refusal.{Refusal, firstOf, differs, above, badSize, badRadius, badReach, badKind, badLength}
+use Rattle.model.specs.Refusal.{badMeasures}
+use Rattle.model.specs.declared.Measures.{Measures}
 use Rattle.model.proofs.Refusal.{numbered, none, neither, size-inside}
 
 module _ (l : List ℕ) (i : ℕ) (h : i < length l) where
-  pub total-next : total (drop i l) ≡ getD l i 0 + total (drop (i + 1) l)
-  unfolding total
-  total-next = rw (add-one, drop-cons l i 0)
-
   pub above-here : (k : ℕ) → k < getD l i 0 → above k (drop i l) ≡ true
   unfolding above
   above-here k t = rw (drop-cons l i 0, lt-ltb)
@@ -45,10 +43,15 @@ sized w h r k t e z =
     let (wide, high) = size-inside w h size in
     (factors-fit 256 256 (high .1) (wide .1) tt, ltb-false 3 r radius)
 
+-- the same where none of 1 to 4 is drawn
+pub measured : (m : Measures) {x : ℕ} → x ≡ firstOf (badMeasures m) → x ≡ 0
+    → Fits w64 (m .height * m .width) × (m .radius ≤ 3)
+measured m e z = sized (m .width) (m .height) (m .radius) (badReach (m .reach) ∷ badKind (m .start) ∷ []) tt e z
+
 -- where 5 is not drawn, the psf is no longer than its sum takes
 pub psf-most : (r : ℕ) (psf : List ℕ) (cells : ℕ) (lengths : List ℕ) {x : ℕ} → r ≤ 3
     → x ≡ firstOf (badLength r psf cells lengths ∷ []) → x ≡ 0
-    → length psf ≤ 65536
+    → length psf ≤ mostCells
 psf-most r psf cells lengths h e z =
     let side : ℕ = 2 * r + 1 in
     let (exact, _) = none (badLength r psf cells lengths ∷ []) tt e z in

@@ -3,25 +3,11 @@
 ghost use mathlib.Core.List.{[], _∷_};
 ghost use mathlib.Core.Path.{_≡_};
 ghost use Prim.Native.Nat.{_≤_};
-ghost use lib.ListN.{length};
-ghost use Rattle.model.specs.Psf.{total};
-ghost use Rattle.model.specs.Refusal.{firstOf, either, above, badSize, badRadius, badReach, badKind, badLength, badSum};
+ghost use Rattle.model.specs.Refusal.{firstOf, above, badSize, badRadius, badReach, badKind, badLength, badSum};
+ghost use Rattle.invariants.specs.Refusal.{either};
 ghost use Rattle.model.specs.Refusal.{badDot, badGiven, badMeasures};
 use model::Measures;
-
-// the sum of bytes, at most as many as the cells of the largest plate
-pub fn sum(bytes: &[u8]) -> usize
-    requires { ⌜ length (now bytes) ≤ 65536 ⌝ }
-    ensures { λ r. ⌜ r ≡ total (now (bytes .entry)) ⌝ }
-{
-    let mut sum: usize = 0;
-    let mut i = 0;
-    while i < bytes.len() {
-        sum += bytes[i] as usize;
-        i += 1;
-    }
-    sum
-}
+use slices::sum;
 
 // whether a byte is above the limit
 fn any_above(limit: u8, bytes: &[u8]) -> bool
@@ -47,7 +33,7 @@ pub fn first(a: u32, b: u32) -> u32
     b
 }
 
-// 1 and 2
+// 1 and 2: a size outside 1 to 256, a radius above 3
 pub fn judge_measures(width: usize, height: usize, radius: usize) -> u32
     ensures { λ r. ⌜ r ≡ firstOf (badSize width height ∷ badRadius radius ∷ []) ⌝ }
 {
@@ -69,7 +55,7 @@ pub fn judge_measures(width: usize, height: usize, radius: usize) -> u32
     0
 }
 
-// 3 and 4
+// 3 and 4: a reach above 6, a start kind above 2
 fn judge_options(reach: usize, kind: usize) -> u32
     ensures { λ r. ⌜ r ≡ firstOf (badReach reach ∷ badKind kind ∷ []) ⌝ }
 {
@@ -82,7 +68,7 @@ fn judge_options(reach: usize, kind: usize) -> u32
     0
 }
 
-// 1 to 4
+// 1 to 4, of all five measures
 pub fn judge_all_measures(m: Measures) -> u32
     ensures { λ r. ⌜ r ≡ firstOf (badMeasures m) ⌝ }
 {
@@ -146,7 +132,7 @@ pub fn judge_slices(
     0
 }
 
-// 7
+// 7: a dot byte above 1
 pub fn judge_dots(dots: &[u8]) -> u32
     ensures { λ r. ⌜ r ≡ firstOf (badDot (now (dots .entry)) ∷ []) ⌝ }
 {

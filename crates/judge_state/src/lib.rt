@@ -1,18 +1,19 @@
 // Judging the state that the later calls are handed: the table against one that is worked out afresh (20), and then the
 // ledger (21).
-ghost use mathlib.Core.List.{[], _∷_};
 ghost use mathlib.Core.Path.{_≡_};
 ghost use lib.IntN.{pos};
 ghost use lib.ListN.{length, getD};
-ghost use Rattle.model.specs.Error.{targetOf};
+ghost use Rattle.model.specs.Error.{targetFor};
 ghost use Rattle.model.specs.Ledger.{unequal};
 ghost use Rattle.model.specs.Refusal.{firstOf, HalftoneFits};
-ghost use Rattle.model.specs.State.{badTable, badStats};
+ghost use Rattle.model.specs.State.{stateRefusals};
 ghost use Rattle.model.specs.Basic.{someBelow};
 use filter_sums::filter_and_square;
 use judge_ledger::judge_ledger;
-use judge_parts::sum;
+use model::MOST_CELLS;
+use model::Measures;
 use model::Stats;
+use slices::sum;
 
 // whether an entry differs
 fn differ(table: &[i32], fresh: &[i32]) -> bool
@@ -32,25 +33,28 @@ fn differ(table: &[i32], fresh: &[i32]) -> bool
 
 // 20 and 21, of a judged plate
 pub fn judge_state(
-    width: usize,
-    height: usize,
-    radius: usize,
+    measures: Measures,
     psf: &[u8],
     gray: &[u8],
     dots: &[u8],
     table: &[i32],
     stats: Stats,
 ) -> u32
-    requires { ⌜ HalftoneFits width height radius (now psf) (now gray) (now dots) (length (now table)) ⌝ }
-    ensures { λ r. ⌜ r ≡ firstOf
-        (badTable (targetOf width height radius (now (psf .entry)) (now (gray .entry)))
-        (now (dots .entry)) (now (table .entry))
-        ∷ badStats (targetOf width height radius (now (psf .entry)) (now (gray .entry)))
-        (now (dots .entry)) stats ∷ []) ⌝ }
+    requires { ⌜ HalftoneFits (targetFor measures (now psf) (now gray)) (now dots) (length (now table)) ⌝ }
+    ensures { λ r. ⌜ r ≡ firstOf (stateRefusals measures (now (psf .entry)) (now (gray .entry))
+        (now (dots .entry)) (now (table .entry)) stats) ⌝ }
 {
-    let mut fresh = [0i32; 65536];
+    let mut fresh = [0i32; MOST_CELLS];
     let n = table.len();
-    let error = filter_and_square(width, height, radius, psf, gray, dots, &mut fresh[..n]);
+    let error = filter_and_square(
+        measures.width,
+        measures.height,
+        measures.radius,
+        psf,
+        gray,
+        dots,
+        &mut fresh[..n],
+    );
     if differ(table, &fresh[..n]) {
         return 20;
     }

@@ -1,15 +1,15 @@
 -- An attempt that is not refused: what it answers and leaves, and that later calls accept what it leaves.
 --   toggle-ready, swap-ready            what it was handed fits, and its change is legal
---   attempt-cases                       its change lowers E and it is accepted, or it is declined
---   attempt-declined, attempt-accepted  what is answered and left in each case
+--   attempt-by, attempt-cases           its change lowers E and it is accepted, or it is declined
 --   Sound, entry-sound, accept-sound    later calls accept what there is: at an entry, after an accepted change
 --   toggle-tries, swap-tries            the promise of an attempt
+use mathlib.Core.Bool.{true, false}
 use mathlib.Core.List.{List, [], _∷_}
 use mathlib.Core.Path.{_≡_, refl, sym, _∙_, ap, ap₂, subst}
 use Prim.Native.Nat.{ℕ}
 use lib.Dec.{T, lit≤}
 use lib.IntN.{ℤ, pos, _+ℤ_, _-ℤ_}
-use lib.Signed.{_≤ℤ_, _<ℤ_, clashℤ}
+use lib.Signed.{_≤ℤ_, _<ℤ_}
 use lib.ListN.{length}
 use Rattle.algebra.proofs.Solver.{ring!, reify}
 use Rattle.algebra.proofs.Grid.{cell<}
@@ -40,7 +40,7 @@ module _ (m : Measures) (psf gray dots : List ℕ) (table : List ℤ) (s : Stats
       → LaterFits m psf gray dots table s × Legal (targetFor m psf gray) dots (toggle dots (cellAt (m .width) row col))
   toggle-ready row col taken =
       let (fits, r, c) = toggle-enters m psf gray dots table s row col taken in
-      (fits, toggle-legal (targetFor m psf gray) dots (fits-halftone (fits .plate .halftone)) _ (cell< r c))
+      (fits, toggle-legal (targetFor m psf gray) dots (fits-halftone (fits .plate .halftone)) refl _ (cell< r c))
 
   pub swap-ready : (row col row′ col′ : ℕ) → swapRefusal m psf gray dots table s row col row′ col′ ≡ 0
       → LaterFits m psf gray dots table s
@@ -52,16 +52,25 @@ module _ (m : Measures) (psf gray dots : List ℕ) (table : List ℤ) (s : Stats
 
 -- ---- the two cases
 module _ (t : Target) (p : Reference) (v : Move) where
+  abbrev whenAccepted : Performed Tried
+  whenAccepted = record { answer = accepted (statsOf t (accept p v)) (change t (p .dots) v); after = accept p v }
+
+  abbrev whenDeclined : Performed Tried
+  whenDeclined = record { answer = declined (change t (p .dots) v); after = p }
+
   -- its change lowers E, and it is accepted; or it does not, and it is declined
-  pub attempt-cases : (Q : Performed Tried → Type 0)
-      → (change t (p .dots) v <ℤ pos 0
-      → Q (record { answer = accepted (statsOf t (accept p v)) (change t (p .dots) v); after = accept p v }))
-      → (pos 0 ≤ℤ change t (p .dots) v → Q (record { answer = declined (change t (p .dots) v); after = p }))
+  pub attempt-by : (Q : Performed Tried → Type 0)
+      → (lowers t (p .dots) v ≡ true → Q whenAccepted) → (lowers t (p .dots) v ≡ false → Q whenDeclined)
       → Q (attempt t p v)
   unfolding attempt lookFrom
+  attempt-by Q = pick-cases (λ (k : Look). Q (decided t p (k .taken) (k .last))) (lowers t (p .dots) v)
+
+  -- the same by the change
+  pub attempt-cases : (Q : Performed Tried → Type 0)
+      → (change t (p .dots) v <ℤ pos 0 → Q whenAccepted) → (pos 0 ≤ℤ change t (p .dots) v → Q whenDeclined)
+      → Q (attempt t p v)
   attempt-cases Q lower higher =
-      pick-cases (λ (k : Look). Q (decided t p (k .taken) (k .last))) (lowers t (p .dots) v) (λ e. lower (below e))
-      (λ e. higher (at-least (change t (p .dots) v) (pos 0) e))
+      attempt-by Q (λ e. lower (below e)) (λ e. higher (at-least (change t (p .dots) v) (pos 0) e))
 
 -- E now gains the change, and the one matching count rises by 1: the ledger is the reference's
 pub counted-is : (t : Target) (dots : List ℕ) (s : Stats) (v : Move) {d : ℤ}
@@ -75,32 +84,6 @@ counted-is t dots s v {d} e f = λ i. record { error = moved i; figures = raised
 
     moved : s .error +ℤ d ≡ squaredError t (made dots (v .sets))
     moved = ap₂ (λ a b. a +ℤ b) e f ∙ back (squaredError t dots) (squaredError t (made dots (v .sets)))
-
--- ---- what is answered, and what is left in the dots and in the table
-module _ (m : Measures) (psf gray dots : List ℕ) (table : List ℤ) (s : Stats) (f : LaterFits m psf gray dots table s)
-    (v : Move) {d : ℤ} (e : d ≡ change (targetFor m psf gray) dots v) where
-  abbrev Left : Tried → List ℕ → List ℤ → Performed Tried → Type 0
-  Left answer dots′ table′ done =
-      (result answer ≡ result (done .answer))
-      × ((dots′ ≡ done .after .dots) × (table′ ≡ filteredErrors (targetFor m psf gray) (done .after .dots)))
-
-  -- nothing changes
-  pub attempt-declined : pos 0 ≤ℤ d → Left (declined d) dots table (attempt (targetFor m psf gray) (reference dots s) v)
-  attempt-declined h =
-      attempt-cases (targetFor m psf gray) (reference dots s) v (Left (declined d) dots table)
-      (λ l. clashℤ l (subst (λ z. pos 0 ≤ℤ z) e h))
-      (λ l. (ap (λ z. result (declined z)) e, (refl, f .state .table-is)))
-
-  -- the copy with its table and its ledger
-  pub attempt-accepted : {s′ : Stats} {dots′ : List ℕ} {table′ : List ℤ} → d <ℤ pos 0
-      → s′ ≡ statsOf (targetFor m psf gray) (accept (reference dots s) v)
-      → dots′ ≡ accept (reference dots s) v .dots
-      → table′ ≡ filteredErrors (targetFor m psf gray) (accept (reference dots s) v .dots)
-      → Left (accepted s′ d) dots′ table′ (attempt (targetFor m psf gray) (reference dots s) v)
-  attempt-accepted {s′} {dots′} {table′} h g k l =
-      attempt-cases (targetFor m psf gray) (reference dots s) v (Left (accepted s′ d) dots′ table′)
-      (λ _. (ap₂ (λ a b. result (accepted a b)) g e, (k, l)))
-      (λ n. clashℤ (subst (λ z. z <ℤ pos 0) e h) n)
 
 -- ---- what is left fits
 -- later calls accept the reference's dots with their table, and its figures

@@ -2,13 +2,12 @@
 --   no-result, same-result, same-refusal  what a reply says, it says alone
 --   is-refused, is-done                   the number that the judge found, and the buffer as it was; or the outcome
 --   was-taken, was-done                   a call that answers a value was not refused, and the value is the outcome's
---   both-refused, both-done               the first two, of a call that is lent dots and table
+--   ends-refused, ends-done               the same of a function that ends as a call does
+--   ends-as                               it ends as an outcome that is the call's
 use mathlib.Core.Path.{_≡_, refl, sym, _∙_, ap, subst}
-use mathlib.Core.List.{List}
 use Prim.Native.Nat.{ℕ, zero, suc}
 use native.Mathlib.Omega.{arith}
-use lib.IntN.{ℤ}
-use Rattle.model.specs.Calls.{Reply, result, refused, Outcome, unless, Buffers}
+use Rattle.model.specs.Calls.{Reply, result, refused, Outcome, Ends, unless}
 
 -- the value of a result
 abbrev valueOr : {A : Type 0} → A → Reply A → A
@@ -58,21 +57,14 @@ module _ {A B : Type 0} (b : B) (o : Outcome A B) where
       let (taken, same) = was-taken n f in
       (taken, ap (valueOr a) (sym e ∙ ap (λ o. o .reply) same ∙ f), same)
 
--- the same, of a call that is lent dots and table
-module _ {A : Type 0} (dots : List ℕ) (table : List ℤ) (o : Outcome A Buffers) (n : ℕ) where
-  abbrev handed : Buffers
-  handed = record { dots = dots; table = table }
+  -- the same of a function that ends as a call does
+  pub ends-refused : (n : ℕ) {x : ℕ} → x ≡ n → (x ≡ 0 → ⊥) → Ends (unless n b o) (refused x 0) b
+  ends-refused n e h = let (reply, left) = is-refused n e h in record { reply-is = reply; left-is = left }
 
-  abbrev Left : Reply A → List ℕ → List ℤ → Type 0
-  Left r d t =
-      (r ≡ unless n handed o .reply) × ((d ≡ unless n handed o .left .dots) × (t ≡ unless n handed o .left .table))
+  pub ends-done : (n : ℕ) → n ≡ 0 → {reply : Reply A} {left : B} → Ends o reply left → Ends (unless n b o) reply left
+  ends-done zero e h = h
+  ends-done (suc n) e h = absurd (omega arith)
 
-  pub both-refused : {x : ℕ} → x ≡ n → (x ≡ 0 → ⊥) → Left (refused x 0) dots table
-  both-refused e h =
-      let (reply, left) = is-refused handed o n e h in
-      (reply, (ap (λ b. b .dots) left, ap (λ b. b .table) left))
-
-  pub both-done : {d : List ℕ} {t : List ℤ} → n ≡ 0 → d ≡ o .left .dots → t ≡ o .left .table → Left (o .reply) d t
-  both-done taken e f =
-      let (reply, left) = is-done handed o n taken refl in
-      (reply, (e ∙ ap (λ b. b .dots) left, f ∙ ap (λ b. b .table) left))
+-- a function that ends as that outcome, which is the call's
+pub ends-as : {A B : Type 0} {o v : Outcome A B} → o ≡ v → Ends o (v .reply) (v .left)
+ends-as e = record { reply-is = sym (ap (λ r. r .reply) e); left-is = sym (ap (λ r. r .left) e) }

@@ -3,11 +3,11 @@
 --   change-least                          a change below 0 is at most -step
 --   byte-swap-change                      what a swap of any two bytes adds to E
 --   toggle-change, swap-change            document 01's formulas are the differences of the sums
---   toggle-moves-table, swap-moves-table  what each T(q) gains
---   flip-table                            the table with one dot turned, by a window
+--   store-moves-table                     what each T(q) gains where a byte is stored
+--   toggle-moves-table, swap-moves-table  and by a toggle and a swap
 use mathlib.Core.Path.{_≡_, refl, sym, _∙_, ap, ap₂}
 use mathlib.Core.List.{List, [], _∷_}
-use Prim.Native.Nat.{ℕ, _*_, _/_, _%_, _<_}
+use Prim.Native.Nat.{ℕ, _*_, _-_, _<_}
 use native.Mathlib.Decide.{ℕ-discrete}
 use native.Mathlib.Omega.{arith}
 use lib.IntN.{ℤ, pos, negsuc, negℤ, _+ℤ_, _-ℤ_, _*ℤ_, +ℤ-idr, +ℤ-invr}
@@ -22,14 +22,11 @@ use Rattle.algebra.proofs.Sum.{point-same, point-other, sumOver-cong, sumOver-s
 use Rattle.model.specs.Basic.{AtMost}
 use Rattle.model.specs.Psf.{autocorrelation, peak}
 use Rattle.model.specs.Error.{Target, cells, row, column, kernel, error}
-use Rattle.model.specs.Error.{filteredError, filteredErrors, squaredError}
-use Rattle.model.specs.Window.{addWindow, HoldsKernel}
-use Rattle.model.specs.Change.{sign, flipped, toggleSum, byteSwapSum, swapSum, Setting, Move, Placed, made, swap}
+use Rattle.model.specs.Error.{filteredError, squaredError}
+use Rattle.model.specs.Change.{sign, toggleSum, byteSwapSum, swapSum, Setting, Move, Placed, made, swap}
 use Rattle.model.specs.Change.{toggleChange, byteSwapChange, swapChange, toggle, change}
-use Rattle.model.proofs.Basic.{tabulate-cong}
 use Rattle.model.proofs.Error.{kernel-symmetric, filtered-edit, squared-edit}
-use Rattle.model.proofs.Window.{addWindow-tabulate, gain-kernel}
-use Rattle.model.proofs.Turn.{sign-is, sign-square, unlike-sign, toggle-sets, toggle-made}
+use Rattle.model.proofs.Turn.{sign-is, sign-square, unlike-sign, toggle-sets}
 
 -- ---- stores as an edit
 -- what the stores add to the dots, one after the other
@@ -179,6 +176,25 @@ module _ (t : Target) where
       (error-made dots l (rw long placed)) q
       ∙ ap (λ z. filteredError t dots q +ℤ z) (sum-times u (units dots l) (λ m. kernel t m q))
 
+  -- one store
+  pub store-moves-table : (dots : List ℕ) → length dots ≡ cells t → (m byte q : ℕ) → m < cells t
+      → filteredError t (set dots m byte) q
+      ≡ filteredError t dots q
+      +ℤ pos (t .step) *ℤ (pos byte -ℤ pos (getD dots m 0)) *ℤ kernel t q m
+  unfolding made sumOver
+  store-moves-table dots long m byte q h =
+      filtered-made dots (record { cell = m; byte = byte } ∷ []) long (h, tt) q
+      ∙ rw (kernel-symmetric t m q) (turn (pos byte -ℤ pos (getD dots m 0)) (kernel t q m))
+    where
+      u : ℤ
+      u = pos (t .step)
+
+      T : ℤ
+      T = filteredError t dots q
+
+      turn : (a c : ℤ) → T +ℤ u *ℤ (a *ℤ c +ℤ pos 0) ≡ T +ℤ u *ℤ a *ℤ c
+      turn a c = ring! (u ∷ a ∷ T ∷ c ∷ []) (search reify depth 40) refl
+
   -- ---- and to E: step × (2 × Σ kᵢ·T(mᵢ) + step × ΣΣ kᵢ·kⱼ·c(mᵢ - mⱼ))
   abbrev inner : List ℕ → List Increment → ℤ
   inner dots k =
@@ -314,20 +330,11 @@ module _ (t : Target) where
     pub toggle-moves-table : (m q : ℕ) → m < cells t
         → filteredError t (made dots (toggle dots m .sets)) q
         ≡ filteredError t dots q +ℤ pos (t .step) *ℤ sign dots m *ℤ kernel t q m
-    unfolding sumOver
+    unfolding made
     toggle-moves-table m q h =
-        filtered-made dots (toggle dots m .sets) long (toggle-placed dots h) q
-        ∙ ap (λ l. T +ℤ u *ℤ sumOver l (λ c. c .amount *ℤ kernel t (c .cell) q)) (toggle-units dots bits m)
-        ∙ rw (kernel-symmetric t m q) (turn (sign dots m) (kernel t q m))
-      where
-        u : ℤ
-        u = pos (t .step)
-
-        T : ℤ
-        T = filteredError t dots q
-
-        turn : (s c : ℤ) → T +ℤ u *ℤ (s *ℤ c +ℤ pos 0) ≡ T +ℤ u *ℤ s *ℤ c
-        turn s c = ring! (u ∷ s ∷ T ∷ c ∷ []) (search reify depth 40) refl
+        ap (λ l. filteredError t (made dots l) q) (toggle-sets dots bits m)
+        ∙ store-moves-table dots long m (1 - getD dots m 0) q h
+        ∙ ap (λ s. filteredError t dots q +ℤ pos (t .step) *ℤ s *ℤ kernel t q m) (sign-is dots bits m)
 
     -- and for a swap, whose dots differ, also step × s(n) × c(q - n)
     pub swap-moves-table : (m n q : ℕ) → m < cells t → n < cells t → (getD dots m 0 ≡ getD dots n 0 → ⊥)
@@ -352,17 +359,3 @@ module _ (t : Target) where
 
         turn : (r s c d : ℤ) → T +ℤ u *ℤ (r *ℤ c +ℤ (s *ℤ d +ℤ pos 0)) ≡ T +ℤ u *ℤ r *ℤ c +ℤ u *ℤ s *ℤ d
         turn r s c d = ring! (u ∷ r ∷ s ∷ T ∷ c ∷ d ∷ []) (search reify depth 40) refl
-
-    -- the same by a window
-    pub flip-table : (c : List ℤ) → HoldsKernel (t .radius) (t .psf) c → (m : ℕ) → m < cells t
-        → filteredErrors t (flipped dots m)
-        ≡ addWindow (t .width) (2 * t .radius) c
-        (pos (t .step) *ℤ sign dots m) (m / t .width) (m % t .width) (filteredErrors t dots)
-    unfolding filteredErrors
-    flip-table c k m h =
-        tabulate-cong (cells t) (λ q l.
-        ap (λ d. filteredError t d q) (sym (toggle-made dots bits m))
-        ∙ toggle-moves-table m q h
-        ∙ ap (λ z. filteredError t dots q +ℤ pos (t .step) *ℤ sign dots m *ℤ z) (sym (gain-kernel t c k m q)))
-        ∙ sym (addWindow-tabulate (t .width) (2 * t .radius) c (cells t)
-        (filteredError t dots) (pos (t .step) *ℤ sign dots m) (m / t .width) (m % t .width))

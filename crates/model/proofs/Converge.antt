@@ -40,22 +40,22 @@ module _ (t : Target) (reach : ℕ) where
   -- what a turn hands on where something was accepted
   record Follows (p q : Reference) : Type 0 where
     lower : size q < size p
-    halftone : Halftone t (p .dots) → Halftone t (q .dots)
+    halftone : t .top ≡ 1 → Halftone t (p .dots) → Halftone t (q .dots)
 
   module _ (wide : 0 < t .width) where
-    follows : (rule : Rule) → Lawful t rule → (p : Reference) → (sweep t rule p .changes ≡ 0 → ⊥)
+    follows : (rule : Rule) → (t .top ≡ 1 → Lawful t rule) → (p : Reference) → (sweep t rule p .changes ≡ 0 → ⊥)
         → Follows p (sweep t rule p .after)
     follows rule lawful p some =
         record {
           lower = sweep-lowers t rule p wide (cells t) some;
-          halftone = λ f. sweep-halftone t rule lawful p f (cells t) (le-refl (cells t));
+          halftone = λ one f. sweep-halftone t rule (lawful one) p f (cells t) (le-refl (cells t));
         }
 
     follows-toggles : (p : Reference) → (toggled p .changes ≡ 0 → ⊥) → Follows p (toggled p .after)
     follows-toggles = follows (toggles t) (toggles-lawful t)
 
     follows-swaps : (p : Reference) → (swapped p .changes ≡ 0 → ⊥) → Follows p (swapped p .after)
-    follows-swaps = follows (swaps t reach) (swaps-lawful t reach)
+    follows-swaps = follows (swaps t reach) (λ one. swaps-lawful t reach)
 
     -- after a toggle scan that accepted nothing
     follows-both : (p : Reference) → toggled p .changes ≡ 0 → (swapped (toggled p .after) .changes ≡ 0 → ⊥)
@@ -90,17 +90,17 @@ module _ (t : Target) (reach : ℕ) where
         turn-cong (convergeIn t reach (size p)) (convergeFrom t reach) p n (λ q l f.
         fuel (size p) (suc (size q)) q l (f .lower) (omega arith))
 
-    -- nothing else keeps to it
-    pub converge-only : (f : Reference → ℕ → Convergence)
+    -- nothing else keeps to it, where a dot byte is 0 or 1
+    pub converge-only : t .top ≡ 1 → (f : Reference → ℕ → Convergence)
         → ((p : Reference) (n : ℕ) → Halftone t (p .dots) → f p n ≡ turn t reach f p n)
         → (p : Reference) (n : ℕ) → Halftone t (p .dots) → f p n ≡ convergeFrom t reach p n
-    converge-only f rule p n h = go (suc (size p)) p n h (omega arith)
+    converge-only one f rule p n h = go (suc (size p)) p n h (omega arith)
       where
         go : (i : ℕ) (p : Reference) (n : ℕ) → Halftone t (p .dots) → size p < i → f p n ≡ convergeFrom t reach p n
         go zero p n h k = absurd (not-suc-le-zero k)
         go (suc i) p n h k =
             rule p n h
-            ∙ turn-cong f (convergeFrom t reach) p n (λ q l d. go i q l (d .halftone h) (omega (arith, d .lower)))
+            ∙ turn-cong f (convergeFrom t reach) p n (λ q l d. go i q l (d .halftone one h) (omega (arith, d .lower)))
             ∙ sym (converge-rule p n)
 
     -- ---- what a loop steps by
@@ -179,13 +179,13 @@ module _ (t : Target) (reach : ℕ) where
           go (suc i) p n h = one-turn p n (λ q k f. go i q k (omega (arith, f .lower)))
 
     -- what each accepted change keeps, it keeps
-    pub converge-keeps : (P : Reference → Type 0) → Keeps t P → (p : Reference) (n : ℕ) → Halftone t (p .dots) → P p
+    pub converge-keeps : t .top ≡ 1 → (P : Reference → Type 0) → Keeps t P → (p : Reference) (n : ℕ) → Halftone t (p .dots) → P p
         → P (convergeFrom t reach p n .after)
-    converge-keeps P keep =
+    converge-keeps one P keep =
         converge-ind (λ p n r. Halftone t (p .dots) → P p → P (r .after))
-        (λ p n r some ih f h. ih (follows-toggles p some .halftone f) (kept (toggles t) (toggles-lawful t) p f h))
+        (λ p n r some ih f h. ih (follows-toggles p some .halftone one f) (kept (toggles t) (toggles-lawful t one) p f h))
         (λ p n r none some ih f h.
-        ih (follows-swaps p some .halftone f) (kept (swaps t reach) (swaps-lawful t reach) p f h))
+        ih (follows-swaps p some .halftone one f) (kept (swaps t reach) (swaps-lawful t reach) p f h))
         (λ p n none none′ f h. h)
       where
         kept : (rule : Rule) → Lawful t rule → (p : Reference) → Halftone t (p .dots) → P p → P (sweep t rule p .after)
@@ -211,14 +211,14 @@ module _ (t : Target) (reach : ℕ) where
         (λ p n none none′. omega arith)
 
     -- ---- it ends at rest
-    module _ (step : 0 < t .step) (near : reach ≤ 6) where
+    module _ (step : 0 < t .step) (one : t .top ≡ 1) (near : reach ≤ 6) where
       pub converge-rest : (p : Reference) (n : ℕ) → Halftone t (p .dots)
           → (let dots = convergeFrom t reach p n .after .dots in Rest t reach dots (filteredErrors t dots))
       converge-rest =
           converge-ind
           (λ p n r. Halftone t (p .dots) → Rest t reach (r .after .dots) (filteredErrors t (r .after .dots)))
-          (λ p n r some ih f. ih (follows-toggles p some .halftone f))
-          (λ p n r none some ih f. ih (follows-swaps p some .halftone f))
+          (λ p n r some ih f. ih (follows-toggles p some .halftone one f))
+          (λ p n r none some ih f. ih (follows-swaps p some .halftone one f))
           (λ p n none none′ f.
-          rest-by t reach wide step near (p .dots) f (sweep-still t (toggles t) p (cells t) none .1)
+          rest-by t reach wide step one near (p .dots) f (sweep-still t (toggles t) p (cells t) none .1)
           (sweep-still t (swaps t reach) p (cells t) none′ .1))

@@ -42,7 +42,7 @@ module _ (m : Measures) (psf gray : List ℕ) where
         is-answered = reply;
         is-at-rest =
             subst (λ h. Rest t (m .reach) (h .dots) (h .table)) (sym next)
-            (converge-rest t (m .reach) (f .plate .halftone .wide .0) (lit≤ tt) (f .plate .reach-near) p 0
+            (converge-rest t (m .reach) (f .plate .halftone .wide .0) (lit≤ tt) refl (f .plate .reach-near) p 0
             (sound-halftone m psf gray p f));
         scans-are-few =
             omega (

@@ -68,9 +68,9 @@ unfolding sumTo sumFrom tabulate gridAt squareAt psfAt autocorrelation kernel er
 one-sided =
     record {
       dark-table = refl;
-      dark-rests = rest-tested dark darkDots (omega arith) (record { long = refl; bits = record { each = none-above 1 darkDots refl } }) refl refl;
+      dark-rests = rest-tested dark darkDots (omega arith) refl (record { long = refl; bits = record { each = none-above 1 darkDots refl } }) refl refl;
       below-under-dot = λ h. h .le;
       light-table = refl;
-      light-rests = rest-tested light lightDots (omega arith) (record { long = refl; bits = record { each = none-above 1 lightDots refl } }) refl refl;
+      light-rests = rest-tested light lightDots (omega arith) refl (record { long = refl; bits = record { each = none-above 1 lightDots refl } }) refl refl;
       above-under-blank = λ h. h .le;
     }

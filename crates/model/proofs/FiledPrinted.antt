@@ -120,8 +120,7 @@ module _ (input : List ℕ) (none : Unrefused input) (s : Sheet) (given : IsShee
   figures-few =
       let k = mostFigure in
       let end : AtMost k [] = record { each = λ i. omega arith } in
-      let squared = squared-most (s .measures .width) (s .measures .height) (s .measures .radius) (s .psf) (s .gray)
-      (after .dots) (sound .plate .halftone) (given .is-valid .gray-most) in
+      let squared = squared-most (sound .plate .halftone) (given .is-valid .gray-most) in
       let before = at-most mostSquared (p .before) (fits .start-high) in
       let now = at-most mostSquared (p .after) (subst (λ z. z ≤ℤ pos mostSquared)
       (ap (squaredError t) (sym (p .dots-are-reference)) ∙ sym (p .after-is-of-dots)) squared) in

@@ -47,6 +47,7 @@ filed-plate s v given low high =
         dots-length = rw (eq-eqb (s .measures .start) 2 given) at (v .shaped .dots-length);
         table-length = refl;
         bits = v .dots-most;
+        top-black = refl;
       };
     }
 
@@ -61,8 +62,8 @@ filed-starts s v given low high =
     (drawn-none (inputRefusals m (s .psf) (s .gray) (s .dots) (cellsOf m)) drawn)
 
 -- ---- at rest
-module _ (t : Target) (reach : ℕ) (wide : 0 < t .width) (step : 0 < t .step) (near : reach ≤ 6) (dots : List ℕ)
-    (f : Halftone t dots) where
+module _ (t : Target) (reach : ℕ) (wide : 0 < t .width) (step : 0 < t .step) (one : t .top ≡ 1) (near : reach ≤ 6)
+    (dots : List ℕ) (f : Halftone t dots) where
   pub rests-exactly : Exactly (rests t reach dots ≡ true) (Rest t reach dots (filteredErrors t dots))
   unfolding rests begin
   rests-exactly = (still, calm)
@@ -73,7 +74,7 @@ module _ (t : Target) (reach : ℕ) (wide : 0 < t .width) (step : 0 < t .step) (
           let a = sweep t (toggles t) p .changes in
           let b = sweep t (swaps t reach) p .changes in
           let (none, none′) = and-eq-true-iff (eqb a 0) (eqb b 0) .0 e in
-          rest-by t reach wide step near dots f (sweep-still t (toggles t) p (cells t) (eqb-true a 0 none) .1)
+          rest-by t reach wide step one near dots f (sweep-still t (toggles t) p (cells t) (eqb-true a 0 none) .1)
           (sweep-still t (swaps t reach) p (cells t) (eqb-true b 0 none′) .1)
 
       calm : Rest t reach dots (filteredErrors t dots) → rests t reach dots ≡ true
@@ -121,7 +122,7 @@ module _ (s : Sheet) (f : FiledFigures) (v : Valid s) (given : s .measures .star
   found-exactly : Exactly (found ≡ true) (Rest t (s .measures .reach) (s .dots) (filteredErrors t (s .dots)))
   found-exactly =
       let fits = filed-plate s v given low high in
-      rests-exactly t (s .measures .reach) (v .in-range .wide .0) (lit≤ tt) (v .in-range .reached) (s .dots)
+      rests-exactly t (s .measures .reach) (v .in-range .wide .0) (lit≤ tt) refl (v .in-range .reached) (s .dots)
       (fits-halftone (fits .halftone))
 
   pub verdicts-hold : VerdictPromises s f

@@ -28,7 +28,6 @@ use Rattle.model.specs.Sheet.{sideOf, entriesOf, cellsOf, endOf}
 use Rattle.model.specs.Format.{Part, fixed, number, grid, headFrom, psfBlock, grayBlock, dotsBlock, body, textOf}
 use Rattle.model.specs.Format.{isAt, fixedAt, field, fieldBy, limitOf, fieldAt, Parsed, parsed, onFixed}
 use Rattle.model.specs.Format.{onField, parse}
-use Rattle.model.specs.Format.{placeOf, parseNext}
 use Rattle.model.proofs.Basic.{pick-cases, zero-cases, pick-cong}
 use Rattle.model.specs.Grammar.{numbers, Beyond, OutsideAt}
 use Rattle.model.proofs.Text.{beyond-false, cap-inside, number-yielded}
@@ -227,14 +226,6 @@ parse-refused (number lo hi end ∷ a) b s at z =
     pick-cong (eqb (f .refusal) 0) (λ t.
     ap (λ (r : Parsed). parsed (r .refusal) (r .at) (f .value ∷ r .values))
     (parse-refused a b s (f .at) (λ y. z (rw t y)))) (λ t. refl)
-
--- the place after both
-pub parse-next : (a b : List Part) (s : List ℕ) (at : ℕ)
-    → placeOf (parse (a ++ b) s at) ≡ parseNext b s (placeOf (parse a s at))
-unfolding parseNext
-parse-next a b s at =
-    zero-cases (λ (p : Place). placeOf (parse (a ++ b) s at) ≡ p) (parse a s at .refusal)
-    (λ z. ap placeOf (parse-append a b s at z)) (λ z. ap placeOf (parse-refused a b s at z))
 
 -- as many values as numbers
 pub values-length : (ps : List Part) (s : List ℕ) (at : ℕ) → parse ps s at .refusal ≡ 0

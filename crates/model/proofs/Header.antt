@@ -130,8 +130,8 @@ pub pbm-header-is-read : {w h : ℕ} {head : List ℕ} → IsHeader 52 (w ∷ h 
     → pbmHeader (head ++ raster)
     ≡ record {
       good = true;
-      width = capTo 65536 w;
-      height = capTo 65536 h;
+      width = capTo mostValue w;
+      height = capTo mostValue h;
       maximum = 1;
       at = length head;
     }
@@ -146,8 +146,8 @@ pub record PbmStands (s : List ℕ) : Type 0 where
   pub text : s ≡ head ++ raster
   pub is-header : IsHeader 52 (width ∷ height ∷ []) head
   pub at-is : pbmHeader s .at ≡ length head
-  pub width-is : pbmHeader s .width ≡ capTo 65536 width
-  pub height-is : pbmHeader s .height ≡ capTo 65536 height
+  pub width-is : pbmHeader s .width ≡ capTo mostValue width
+  pub height-is : pbmHeader s .height ≡ capTo mostValue height
 
 pub pbm-read-is-header : (s : List ℕ) → pbmHeader s .good ≡ true → PbmStands s
 unfolding pbmHeader
@@ -176,9 +176,9 @@ pub pgm-header-is-read : {w h m : ℕ} {head : List ℕ} → IsHeader 53 (w ∷ 
     → pgmHeader (head ++ raster)
     ≡ record {
       good = true;
-      width = capTo 65536 w;
-      height = capTo 65536 h;
-      maximum = capTo 65536 m;
+      width = capTo mostValue w;
+      height = capTo mostValue h;
+      maximum = capTo mostValue m;
       at = length head;
     }
 unfolding pgmHeader
@@ -193,9 +193,9 @@ pub record PgmStands (s : List ℕ) : Type 0 where
   pub text : s ≡ head ++ raster
   pub is-header : IsHeader 53 (width ∷ height ∷ maximum ∷ []) head
   pub at-is : pgmHeader s .at ≡ length head
-  pub width-is : pgmHeader s .width ≡ capTo 65536 width
-  pub height-is : pgmHeader s .height ≡ capTo 65536 height
-  pub maximum-is : pgmHeader s .maximum ≡ capTo 65536 maximum
+  pub width-is : pgmHeader s .width ≡ capTo mostValue width
+  pub height-is : pgmHeader s .height ≡ capTo mostValue height
+  pub maximum-is : pgmHeader s .maximum ≡ capTo mostValue maximum
 
 pub pgm-read-is-header : (s : List ℕ) → pgmHeader s .good ≡ true → PgmStands s
 unfolding pgmHeader

@@ -5,7 +5,6 @@ pub mod Psf
 -- Table and squared error
 pub mod Error
 pub mod Spread
-pub mod Window
 pub mod Halftone
 -- One change
 pub mod Ledger
@@ -17,7 +16,6 @@ pub mod Start
 -- Scans and settling
 pub mod Partners
 pub mod Scan
-pub mod Loop
 pub mod Rest
 pub mod Converge
 -- Refused because of the input, and because of the state
@@ -32,6 +30,7 @@ pub mod Lists
 pub mod Demand3
 -- Sheet and program
 pub mod Text
+pub mod Puts
 pub mod Rows
 pub mod Format
 pub mod Agrees

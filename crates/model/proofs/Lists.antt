@@ -142,9 +142,9 @@ module _ (m : Measures) (psf gray : List ℕ) where
           attempt-keeps _
           (swap-ready m psf gray (p .dots) (filteredErrors t (p .dots)) (statsOf t p) row col row′ col′
           (draws (swapAsked m (p .dots) row col row′ col′) ∙ e) .1)
-      does-keeps toggleScan e = scan-keeps (toggles t) (toggles-lawful t)
+      does-keeps toggleScan e = scan-keeps (toggles t) (toggles-lawful t refl)
       does-keeps swapScan e = scan-keeps (swaps t (m .reach)) (swaps-lawful t (m .reach))
-      does-keeps convergence e = converge-keeps t (m .reach) (f .plate .halftone .wide .0) P keep p 0 halftone h
+      does-keeps convergence e = converge-keeps t (m .reach) (f .plate .halftone .wide .0) refl P keep p 0 halftone h
 
       call-keeps : (c : Call) → P (referenceCall m psf gray p c .left)
       call-keeps c = go (firstOf (asks (asked m (p .dots) c))) refl

@@ -15,6 +15,7 @@ use lib.ListN.{length, length-append}
 use Rattle.model.specs.declared.Measures.{Measures}
 use Rattle.model.specs.declared.FiledFigures.{FiledFigures}
 use Rattle.model.specs.Basic.{AtMost}
+use Rattle.model.specs.Error.{mostCells}
 use Rattle.model.specs.Calls.{result}
 use Rattle.model.specs.Refusal.{writeRefusal}
 use Rattle.model.specs.Text.{digits}
@@ -117,7 +118,7 @@ module _ (s : Sheet) (h : InRange (s .measures)) (z : Shaped s) (n : ℕ) (few :
 -- ---- every sheet
 pub sheet-most : (s : Sheet) → Valid s → length (sheetText s) ≤ longestSheet
 sheet-most s v =
-    text-most s (v .in-range) (v .shaped) 65536 (cells-most (s .measures) (v .in-range)) 0 1 (omega arith) (v .psf-most)
+    text-most s (v .in-range) (v .shaped) mostCells (cells-most (s .measures) (v .in-range)) 0 1 (omega arith) (v .psf-most)
     (v .gray-most) (v .dots-most)
 
 -- so an output of that length takes it

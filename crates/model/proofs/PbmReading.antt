@@ -17,7 +17,7 @@ use lib.ListN.{length, drop, length-append}
 use lib.Seq.{sets, drop-append-seam}
 use Rattle.model.specs.declared.Size.{Size}
 use Rattle.model.specs.Netpbm.{IsHeader, IsPbm, cellsIn, packedSize, unpacked}
-use Rattle.model.specs.PictureHeader.{pbmHeader, sizeOf}
+use Rattle.model.specs.PictureHeader.{pbmHeader, mostValue, sizeOf}
 use Rattle.model.specs.PictureCalls.{wrongLayout, readPbmCall}
 use Rattle.model.specs.PicturePromises.{PbmReadingPromises}
 use Rattle.model.proofs.Text.{cap-low, cap-is}
@@ -44,8 +44,8 @@ module _ {z : Size} {file : List ℕ} (p : IsPbm z file) where
       ap pbmHeader (p .text)
       ∙ pbm-header-is-read (p .is-header) (p .raster)
       ∙ rw (
-        cap-low 65536 (z .width) (omega (arith, p .in-size .wide .1)),
-        cap-low 65536 (z .height) (omega (arith, p .in-size .high .1)),
+        cap-low mostValue (z .width) (omega (arith, p .in-size .wide .1)),
+        cap-low mostValue (z .height) (omega (arith, p .in-size .high .1)),
       )
 
   pbm-size : sizeOf (pbmHeader file) ≡ z
@@ -73,8 +73,8 @@ module _ {z : Size} {file : List ℕ} (p : IsPbm z file) where
 pub layout-pbm : (file : List ℕ) → Laid file → IsPbm (sizeOf (pbmHeader file)) file
 layout-pbm file f =
     let r = pbm-read-is-header file (f .good) in
-    let w = cap-is 65536 (r .width) (r .width-is) (omega (arith, f .in-size .wide .1)) in
-    let h = cap-is 65536 (r .height) (r .height-is) (omega (arith, f .in-size .high .1)) in
+    let w = cap-is mostValue (r .width) (r .width-is) (omega (arith, f .in-size .wide .1)) in
+    let h = cap-is mostValue (r .height) (r .height-is) (omega (arith, f .in-size .high .1)) in
     let long = ap length (r .text) ∙ length-append (r .head) (r .raster) in
     record {
       in-size = f .in-size;

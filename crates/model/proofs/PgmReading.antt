@@ -16,7 +16,7 @@ use lib.ListN.{length, drop, length-append}
 use lib.Seq.{sets, drop-append-seam}
 use Rattle.model.specs.declared.Size.{Size}
 use Rattle.model.specs.Netpbm.{IsHeader, IsPgm, cellsIn, negated}
-use Rattle.model.specs.PictureHeader.{pgmHeader, sizeOf}
+use Rattle.model.specs.PictureHeader.{pgmHeader, mostValue, sizeOf}
 use Rattle.model.specs.PictureCalls.{wrongLayout, readPgmCall}
 use Rattle.model.specs.PicturePromises.{PgmReadingPromises}
 use Rattle.model.proofs.Text.{cap-low, cap-is}
@@ -44,9 +44,9 @@ module _ {z : Size} {maximum : ℕ} {file : List ℕ} (p : IsPgm z maximum file)
       ap pgmHeader (p .text)
       ∙ pgm-header-is-read (p .is-header) (p .raster)
       ∙ rw (
-        cap-low 65536 (z .width) (omega (arith, p .in-size .wide .1)),
-        cap-low 65536 (z .height) (omega (arith, p .in-size .high .1)),
-        cap-low 65536 maximum (p .allowed .1),
+        cap-low mostValue (z .width) (omega (arith, p .in-size .wide .1)),
+        cap-low mostValue (z .height) (omega (arith, p .in-size .high .1)),
+        cap-low mostValue maximum (p .allowed .1),
       )
 
   pgm-size : sizeOf (pgmHeader file) ≡ z
@@ -71,9 +71,9 @@ module _ {z : Size} {maximum : ℕ} {file : List ℕ} (p : IsPgm z maximum file)
 pub layout-pgm : (file : List ℕ) → Laid file → IsPgm (sizeOf (pgmHeader file)) (pgmHeader file .maximum) file
 layout-pgm file f =
     let r = pgm-read-is-header file (f .good) in
-    let w = cap-is 65536 (r .width) (r .width-is) (omega (arith, f .in-size .wide .1)) in
-    let h = cap-is 65536 (r .height) (r .height-is) (omega (arith, f .in-size .high .1)) in
-    let m = cap-is 65536 (r .maximum) (r .maximum-is) (f .allowed .1) in
+    let w = cap-is mostValue (r .width) (r .width-is) (omega (arith, f .in-size .wide .1)) in
+    let h = cap-is mostValue (r .height) (r .height-is) (omega (arith, f .in-size .high .1)) in
+    let m = cap-is mostValue (r .maximum) (r .maximum-is) (f .allowed .1) in
     let long = ap length (r .text) ∙ length-append (r .head) (r .raster) in
     record {
       in-size = f .in-size;

@@ -162,13 +162,13 @@ module _ (s : Sheet) (v : Valid s) where
     after-sound : Sound m (s .psf) (s .gray) (convergedFrom s .after)
     unfolding converge
     after-sound =
-        converge-keeps (sheetTarget s) (m .reach) wide (Sound m (s .psf) (s .gray)) (sound-kept m (s .psf) (s .gray))
+        converge-keeps (sheetTarget s) (m .reach) wide refl (Sound m (s .psf) (s .gray)) (sound-kept m (s .psf) (s .gray))
         first 0 first-halftone first-sound
 
     after-start : convergedFrom s .after .figures .«start_error» ≡ squaredError (sheetTarget s) (firstDots s)
     unfolding converge begin
     after-start =
-        converge-keeps (sheetTarget s) (m .reach) wide
+        converge-keeps (sheetTarget s) (m .reach) wide refl
         (λ p.
         (p .figures .«start_error» ≡ squaredError (sheetTarget s) (firstDots s))
         × (p .figures .«start_dots» ≡ dotTotal (firstDots s)))
@@ -229,7 +229,7 @@ module _ (s : Sheet) (v : Valid s) where
           is-printed = e ∙ text-is;
           dots-are-reference = refl;
           is-at-rest =
-              converge-rest t (m .reach) wide (lit≤ tt) (v .in-range .reached) first 0 first-halftone;
+              converge-rest t (m .reach) wide (lit≤ tt) refl (v .in-range .reached) first 0 first-halftone;
           before-is-of-start =
               whole-is (after .figures .«start_error»)
               (subst (λ z. pos 0 ≤ℤ z) (sym after-start) (nonneg (firstDots s)))

@@ -1,11 +1,11 @@
 -- Laws of the reference's changes: which are legal, and what fits again after one.
---   made-long, made-bits          the copy on which a change is made: as many dots, each 0 or 1
+--   made-long, made-bits          the copy on which a change is made: as many dots, each at most as high
 --   halftone-made, fits-halftone  a plate that fits fits after it, and its dots are dots for the target
 --   toggle-legal, swap-legal      toggles, and swaps of unlike dots, are legal
 --   accept-fits                   where a legal change lowers E and is accepted, the state fits again
 use mathlib.Core.Path.{_≡_, refl, sym, _∙_, ap, subst}
 use mathlib.Core.List.{List, [], _∷_}
-use Prim.Native.Nat.{ℕ, zero, suc, _+_, _*_, _-_, _^_, _≤_, _<_}
+use Prim.Native.Nat.{ℕ, zero, suc, _+_, _*_, _-_, _≤_, _<_}
 use native.Mathlib.Nat.{not-suc-le-zero, mul-le-mul-right}
 use native.Mathlib.Decide.{ℕ-discrete}
 use native.Mathlib.Omega.{arith}
@@ -19,15 +19,15 @@ use Rattle.algebra.proofs.Order.{ordℤ, read≤, show≤, show≡}
 use Rattle.model.specs.declared.Stats.{Stats}
 use Rattle.model.specs.Basic.{pick, AtMost, All}
 use Rattle.model.specs.Psf.{total}
-use Rattle.model.specs.Error.{Target, targetOf, cells, filteredErrors, squaredError, mostSquared, Halftone}
+use Rattle.model.specs.Error.{Target, cells, filteredErrors, squaredError, mostSquared, Halftone}
 use Rattle.model.specs.Refusal.{HalftoneFits}
-use Rattle.model.specs.Ledger.{onCount, offCount, netOf, raised, changes}
+use Rattle.model.specs.Ledger.{onCount, offCount, netOf, dotTotal, raised, changes, mostCount}
 use Rattle.model.specs.State.{StateFits}
-use Rattle.model.specs.Change.{flipped, Setting, Move, Placed, made, toggle, swap, Legal, change}
+use Rattle.model.specs.Change.{Setting, Move, Placed, made, toggle, swap, Legal, change}
 use Rattle.model.specs.Reference.{reference, accept, statsOf}
 use Rattle.model.proofs.Error.{squared-nonneg}
 use Rattle.model.proofs.Ledger.{raised-start, raised-changes, raised-dots}
-use Rattle.model.proofs.Turn.{two, toggle-sets, toggle-made}
+use Rattle.model.proofs.Turn.{two, toggle-sets}
 use Rattle.model.proofs.Change.{change-least}
 
 -- ---- one store
@@ -37,10 +37,10 @@ total-set [] m x h = absurd (not-suc-le-zero h)
 total-set (d ∷ dots) zero x h = omega arith
 total-set (d ∷ dots) (suc m) x h = omega (arith, total-set dots m x (omega arith))
 
-bits-set : (dots : List ℕ) (m x : ℕ) → m < length dots → x ≤ 1 → AtMost 1 dots → AtMost 1 (set dots m x)
-bits-set dots m x h k bits = record { each = λ n. go n (ℕ-discrete n m) }
+bits-set : {b : ℕ} (dots : List ℕ) (m x : ℕ) → m < length dots → x ≤ b → AtMost b dots → AtMost b (set dots m x)
+bits-set {b} dots m x h k bits = record { each = λ n. go n (ℕ-discrete n m) }
   where
-    go : (n : ℕ) → Dec (n ≡ m) → getD (set dots m x) n 0 ≤ 1
+    go : (n : ℕ) → Dec (n ≡ m) → getD (set dots m x) n 0 ≤ b
     go n (yes e) = rw (e, getD-set-same dots m x 0 h) k
     go n (no e) = rw (getD-set-other dots m n x 0 e) (bits .each n)
 
@@ -50,8 +50,8 @@ unfolding made
 made-long dots [] = refl
 made-long dots (x ∷ l) = made-long (set dots (x .cell) (x .byte)) l ∙ length-set dots (x .cell) (x .byte)
 
-pub made-bits : (dots : List ℕ) (l : List Setting) → Placed (length dots) l → All (λ x. x .byte ≤ 1) l
-    → AtMost 1 dots → AtMost 1 (made dots l)
+pub made-bits : {b : ℕ} (dots : List ℕ) (l : List Setting) → Placed (length dots) l → All (λ x. x .byte ≤ b) l
+    → AtMost b dots → AtMost b (made dots l)
 unfolding made
 made-bits dots [] h k bits = bits
 made-bits dots (x ∷ l) h k bits =
@@ -59,9 +59,9 @@ made-bits dots (x ∷ l) h k bits =
     (bits-set dots (x .cell) (x .byte) (h .0) (k .0) bits)
 
 -- so a plate that fits fits after it
-pub halftone-made : {w h r : ℕ} {psf gray : List ℕ} {n : ℕ} (dots : List ℕ) (l : List Setting)
-    → HalftoneFits w h r psf gray dots n → Placed (h * w) l → All (λ x. x .byte ≤ 1) l
-    → HalftoneFits w h r psf gray (made dots l) n
+pub halftone-made : {t : Target} {n : ℕ} (dots : List ℕ) (l : List Setting)
+    → HalftoneFits t dots n → Placed (cells t) l → All (λ x. x .byte ≤ t .top) l
+    → HalftoneFits t (made dots l) n
 halftone-made dots l f placed bits =
     record {
       wide = f .wide;
@@ -71,30 +71,34 @@ halftone-made dots l f placed bits =
       dots-length = made-long dots l ∙ f .dots-length;
       table-length = f .table-length;
       bits = made-bits dots l (rw (f .dots-length) placed) bits (f .bits);
+      top-black = f .top-black;
     }
 
 -- dots that fit are dots for the target
-pub fits-halftone : {w h r : ℕ} {psf gray dots : List ℕ} {n : ℕ} → HalftoneFits w h r psf gray dots n
-    → Halftone (targetOf w h r psf gray) dots
+pub fits-halftone : {t : Target} {dots : List ℕ} {n : ℕ} → HalftoneFits t dots n → Halftone t dots
 fits-halftone f = record { long = f .dots-length; bits = f .bits }
 
 module _ (t : Target) (dots : List ℕ) (f : Halftone t dots) where
-  pub toggle-legal : (m : ℕ) → m < cells t → Legal t dots (toggle dots m)
+  -- where a dot byte is 0 or 1
+  pub toggle-legal : t .top ≡ 1 → (m : ℕ) → m < cells t → Legal t dots (toggle dots m)
   unfolding toggle made
-  toggle-legal m h =
-      let is = sym (toggle-sets dots (f .bits) m) in
+  toggle-legal one m h =
+      let is = sym (toggle-sets dots bits m) in
       record {
         placed = (h, tt);
         apart = (tt, tt);
         another = subst (All (λ x. getD dots (x .cell) 0 ≡ x .byte → ⊥)) is (λ e. absurd (omega arith), tt);
-        bits = subst (All (λ x. x .byte ≤ 1)) is (omega arith, tt);
+        bits = subst (All (λ x. x .byte ≤ t .top)) is (omega (arith, one), tt);
         balance =
-            rw (toggle-made dots (f .bits) m)
-            (go (getD dots m 0) (f .bits .each m) (total-set dots m (1 - getD dots m 0) (rw (f .long) h)));
+            subst (λ l. pos (dotTotal (made dots l)) ≡ pos (dotTotal dots) +ℤ netOf (toggle dots m .raises)) is
+            (go (getD dots m 0) (bits .each m) (total-set dots m (1 - getD dots m 0) (rw (f .long) h)));
       }
     where
+      bits : AtMost 1 dots
+      bits = subst (λ b. AtMost b dots) one (f .bits)
+
       after : ℕ
-      after = total (flipped dots m)
+      after = total (set dots m (1 - getD dots m 0))
 
       go : (x : ℕ) → x ≤ 1 → after + x ≡ total dots + (1 - x)
           → pos after ≡ pos (total dots) +ℤ netOf (pick (eqb x 0) onCount offCount)
@@ -140,7 +144,7 @@ falls u n z e f h k = rw size (go (pos u *ℤ pos n) (pos u) h k)
         (omega (arith, read≤ ρ (search reify depth 40) h, read≤ ρ (search reify depth 40) k))
 
 -- and since E is never negative, they are few: 255 is the least step for which this follows
-few : (u n : ℕ) (z f : ℤ) → 255 ≤ u → z ≤ℤ pos mostSquared → pos 0 ≤ℤ f → (pos u *ℤ pos n) ≤ℤ (z -ℤ f) → n ≤ 2 ^ 44
+few : (u n : ℕ) (z f : ℤ) → 255 ≤ u → z ≤ℤ pos mostSquared → pos 0 ≤ℤ f → (pos u *ℤ pos n) ≤ℤ (z -ℤ f) → n ≤ mostCount
 few u n z f h k l m =
     let ρ : List ℤ = z ∷ f ∷ pos (u * n) ∷ [] in
     omega (arith, ordℤ, mul-le-mul-right n h, read≤ ρ (search reify depth 40) m)
@@ -183,7 +187,7 @@ module _ (t : Target) (wide : 0 < t .width) (step : 255 ≤ t .step) (dots : Lis
           (subst (λ z. (pos (t .step) *ℤ pos (changes (s .figures))) ≤ℤ (first -ℤ z)) (fits .error-is) (fits .fall))
           (change-least t dots v long (legal .placed) lower)
 
-      enough : suc (changes (s .figures)) ≤ 2 ^ 44
+      enough : suc (changes (s .figures)) ≤ mostCount
       enough =
           few (t .step) (suc (changes (s .figures))) first after step (fits .start-high)
           (squared-nonneg t wide (made dots (v .sets))) fall

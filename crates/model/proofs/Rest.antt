@@ -16,7 +16,7 @@ use lib.Signed.{_≤ℤ_}
 use lib.ListN.{getD}
 use Rattle.algebra.proofs.Solver.{reify}
 use Rattle.algebra.proofs.Order.{ordℤ, read≤, show≤}
-use Rattle.model.specs.Basic.{pick, All, someBelow}
+use Rattle.model.specs.Basic.{pick, All, AtMost, someBelow}
 use Rattle.model.specs.Psf.{peak}
 use Rattle.model.specs.Error.{Target, cells, filteredError, filteredErrors, Halftone}
 use Rattle.model.specs.Refusal.{gap}
@@ -65,7 +65,7 @@ and-no true b e h = h
 and-no false b e h = absurd (true≢false (sym e))
 
 -- at rest, if no toggle lowers E and no swap within reach does
-module _ (t : Target) (reach : ℕ) (step : 0 < t .step) (dots : List ℕ) (f : Halftone t dots)
+module _ (t : Target) (reach : ℕ) (step : 0 < t .step) (one : t .top ≡ 1) (dots : List ℕ) (f : Halftone t dots)
     (toggle-calm : (m : ℕ) → m < cells t → Calm t dots (toggle dots m))
     (swap-calm : (m n : ℕ) → m < cells t → n < cells t
     → gap (m / t .width) (n / t .width) ≤ reach → gap (m % t .width) (n % t .width) ≤ reach
@@ -82,7 +82,7 @@ module _ (t : Target) (reach : ℕ) (step : 0 < t .step) (dots : List ℕ) (f : 
       (sym (getD-tabulate (cells t) (filteredError t dots) m (pos 0) h))
       (subst (λ x. pos 0 ≤ℤ (pos 2 *ℤ signOf x *ℤ filteredError t dots m +ℤ P)) e
       (per (t .step) (pos 2 *ℤ sign dots m *ℤ filteredError t dots m +ℤ P) step
-      (subst (λ z. pos 0 ≤ℤ z) (toggle-change t dots (f .bits) (f .long) m h) (toggle-calm m h))))
+      (subst (λ z. pos 0 ≤ℤ z) (toggle-change t dots (subst (λ b. AtMost b dots) one (f .bits)) (f .long) m h) (toggle-calm m h))))
 
   pub rest-if : Rest t reach dots (filteredErrors t dots)
   rest-if =
@@ -94,8 +94,8 @@ module _ (t : Target) (reach : ℕ) (step : 0 < t .step) (dots : List ℕ) (f : 
       }
 
 -- ---- by the scans: if nothing that they attempt lowers E
-module _ (t : Target) (reach : ℕ) (wide : 0 < t .width) (step : 0 < t .step) (near : reach ≤ 6) (dots : List ℕ)
-    (f : Halftone t dots) (toggles-calm : (m : ℕ) → m < cells t → All (Calm t dots) (toggles t dots m))
+module _ (t : Target) (reach : ℕ) (wide : 0 < t .width) (step : 0 < t .step) (one : t .top ≡ 1) (near : reach ≤ 6)
+    (dots : List ℕ) (f : Halftone t dots) (toggles-calm : (m : ℕ) → m < cells t → All (Calm t dots) (toggles t dots m))
     (swaps-calm : (m : ℕ) → m < cells t → All (Calm t dots) (swaps t reach dots m)) where
   toggle-calm : (m : ℕ) → m < cells t → Calm t dots (toggle dots m)
   unfolding toggles
@@ -116,7 +116,7 @@ module _ (t : Target) (reach : ℕ) (wide : 0 < t .width) (step : 0 < t .step) (
       suited (swaps-calm m h))
 
   pub rest-by : Rest t reach dots (filteredErrors t dots)
-  rest-by = rest-if t reach step dots f toggle-calm swap-calm
+  rest-by = rest-if t reach step one dots f toggle-calm swap-calm
 
 -- and the other way: at rest, nothing that they attempt does
 module _ (t : Target) (reach : ℕ) (near : reach ≤ 6) (dots : List ℕ) (r : Rest t reach dots (filteredErrors t dots))
@@ -153,10 +153,10 @@ module _ (t : Target) (dots : List ℕ) where
       someBelow (cells t) (λ m.
       someBelow (cells t) (λ n. not (eqb (getD dots m 0) (getD dots n 0)) && lowers t dots (swap dots m n)))
 
-  pub rest-tested : 0 < t .step → Halftone t dots → toggle-lowers ≡ false → swap-lowers ≡ false
+  pub rest-tested : 0 < t .step → t .top ≡ 1 → Halftone t dots → toggle-lowers ≡ false → swap-lowers ≡ false
       → (reach : ℕ) → Rest t reach dots (filteredErrors t dots)
-  rest-tested step f none none′ reach =
-      rest-if t reach step dots f
+  rest-tested step one f none none′ reach =
+      rest-if t reach step one dots f
       (λ m h. at-least _ _ (all-below (cells t) (λ m. lowers t dots (toggle dots m)) none m h))
       (λ m n h k rows columns unlike. at-least _ _
       (and-no _ _ (ap not (ne-eqb _ _ unlike))

@@ -51,9 +51,10 @@ Lawful t rule =
     (dots : List ℕ) → Halftone t dots → (m : ℕ) → m < cells t → All (Legal t dots) (rule dots m)
 
 module _ (t : Target) where
-  pub toggles-lawful : Lawful t (toggles t)
+  -- where a dot byte is 0 or 1
+  pub toggles-lawful : t .top ≡ 1 → Lawful t (toggles t)
   unfolding toggles
-  toggles-lawful dots f m h = (toggle-legal t dots f m h, tt)
+  toggles-lawful one dots f m h = (toggle-legal t dots f one m h, tt)
 
   -- a partner lands on the plate, its dot unlike
   suits-legal : (dots : List ℕ) → Halftone t dots → (m : ℕ) → m < cells t → (o : Offset)

@@ -18,6 +18,7 @@ use lib.ListN.{length, getD, take, drop, length-append, length-drop, take-append
 use lib.Seq.{sets, length-take-le, take-at, drop-at, sets-eq}
 use Rattle.model.specs.declared.Measures.{Measures}
 use Rattle.model.specs.Basic.{pick, AtMost}
+use Rattle.model.specs.Error.{mostCells}
 use Rattle.model.specs.Refusal.{Refusal, badSize, badRadius, badReach, badKind, badLength, badDot, writeRefusal}
 use Rattle.model.specs.Sheet.{Sheet, sideOf, entriesOf, cellsOf, dotsIn, row, rows, names, psfName, grayName}
 use Rattle.model.specs.Sheet.{dotsName, valuesOf, dotsText, sheetText, Shaped, InRange, Valid, roomFor}
@@ -324,7 +325,7 @@ module _ (m : Measures) (r : InRange m) where
   pub entries-most : entriesOf m ≤ 49
   entries-most = let n : sideOf m ≤ 7 = omega (arith, r .near) in mul-le-mul {n₂ = 7} {m₂ = 7} n n
 
-  pub cells-most : cellsOf m ≤ 65536
+  pub cells-most : cellsOf m ≤ mostCells
   cells-most = mul-le-mul {n₂ = 256} {m₂ = 256} (r .high .1) (r .wide .1)
 
   pub cells-fit : (k : ℕ) → cellsOf m ≤ k → roomFor m 49 k k ≡ true
@@ -332,12 +333,12 @@ module _ (m : Measures) (r : InRange m) where
       let d : dotsIn m ≤ k = pick-cases (λ n. n ≤ k) (eqb (m .start) 2) (λ t. h) (λ t. omega arith) in
       rw (le-leb (entriesOf m) 49 entries-most, le-leb (cellsOf m) k h, le-leb (dotsIn m) k d)
 
-  any-fits : roomFor m 49 65536 65536 ≡ true
-  any-fits = cells-fit 65536 cells-most
+  any-fits : roomFor m 49 mostCells mostCells ≡ true
+  any-fits = cells-fit mostCells cells-most
 
 pub same-text : (s s′ : Sheet) → Valid s → Valid s′ → sheetText s ≡ sheetText s′ → s ≡ s′
 same-text s s′ v v′ e =
-    let back = read-back (sheetText s) 49 65536 65536 in
+    let back = read-back (sheetText s) 49 mostCells mostCells in
     let (_, x) = back s refl v (any-fits (s .measures) (v .in-range)) in
     let (_, y) = back s′ e v′ (any-fits (s′ .measures) (v′ .in-range)) in
     sym x ∙ y

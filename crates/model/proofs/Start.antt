@@ -15,10 +15,10 @@ use Rattle.model.specs.Screen.{startDots}
 use Rattle.model.specs.Refusal.{startRefusal, PlateFits}
 use Rattle.model.specs.State.{StateFits, LaterFits}
 use Rattle.model.specs.Promises.{Begun}
-use Rattle.model.specs.Calls.{result, refused, startCall, withTable}
+use Rattle.model.specs.Calls.{result, refused, Ends, buffers, startCall, withTable}
 use Rattle.model.specs.Ledger.{freshStats}
 use Rattle.model.proofs.Error.{filtered-long}
-use Rattle.model.proofs.Calls.{both-refused, both-done, was-done}
+use Rattle.model.proofs.Calls.{ends-refused, ends-done, was-done}
 use Rattle.model.proofs.Refusal.{start-plate}
 use Rattle.model.proofs.Halftone.{squared-least, squared-most}
 use Rattle.model.proofs.State.{fresh-fits, dots-counted}
@@ -27,26 +27,23 @@ use Rattle.model.proofs.Later.{fits-later}
 -- ---- the answer and the buffers
 module _ (m : Measures) (psf gray dots : List ℕ) (table : List ℤ) where
   pub start-refused : {x : ℕ} → x ≡ startRefusal m psf gray dots (length table) → (x ≡ 0 → ⊥)
-      → (refused x 0 ≡ startCall m psf gray dots table .reply)
-      × ((dots ≡ startCall m psf gray dots table .left .dots)
-      × (table ≡ startCall m psf gray dots table .left .table))
+      → Ends (startCall m psf gray dots table) (refused x 0) (buffers dots table)
   unfolding startCall
-  start-refused e h = both-refused dots table _ (startRefusal m psf gray dots (length table)) e h
+  start-refused e h = ends-refused _ _ _ e h
 
   -- where the dots are those of the kind, and the table and the ledger are fresh
   pub start-done : startRefusal m psf gray dots (length table) ≡ 0 → {d : List ℕ} {t : List ℤ} {s : Stats}
       → d ≡ startDots m gray dots
       → t ≡ filteredErrors (targetFor m psf gray) d
       → s ≡ freshStats (targetFor m psf gray) d
-      → (result s ≡ startCall m psf gray dots table .reply)
-      × ((d ≡ startCall m psf gray dots table .left .dots)
-      × (t ≡ startCall m psf gray dots table .left .table))
+      → Ends (startCall m psf gray dots table) (result s) (buffers d t)
   unfolding startCall
   start-done taken e f g =
-      let (reply, left)
-      = both-done dots table _ (startRefusal m psf gray dots (length table)) taken e
-      (f ∙ ap (filteredErrors (targetFor m psf gray)) e) in
-      (ap result (g ∙ ap (freshStats (targetFor m psf gray)) e) ∙ reply, left)
+      ends-done _ _ _ taken
+      (record {
+        reply-is = ap result (g ∙ ap (freshStats (targetFor m psf gray)) e);
+        left-is = λ i. buffers (e i) ((f ∙ ap (filteredErrors (targetFor m psf gray)) e) i);
+      })
 
 -- ---- what is left
 module _ (m : Measures) (psf gray dots : List ℕ) (table : ℕ) (bytes : AtMost 255 gray)
@@ -66,8 +63,7 @@ module _ (m : Measures) (psf gray dots : List ℕ) (table : ℕ) (bytes : AtMost
   start-state =
       let f = start-fits .halftone in
       fresh-fits t begun (f .bits) (f .dots-length)
-      (squared-least (m .width) (m .height) (m .radius) psf gray begun f)
-      (squared-most (m .width) (m .height) (m .radius) psf gray begun f bytes)
+      (squared-least f) (squared-most f bytes)
 
   -- what is left is what later calls accept
   pub start-later : LaterFits m psf gray begun (filteredErrors t begun) (freshStats t begun)

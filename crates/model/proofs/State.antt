@@ -10,7 +10,7 @@ use mathlib.Core.Bool.{Bool, true, false, not}
 use mathlib.Core.Logic.{ite}
 use mathlib.Core.List.{List, [], _∷_, filter}
 use mathlib.Core.Path.{_≡_, refl, sym, _∙_, ap, subst}
-use Prim.Native.Nat.{ℕ, zero, suc, _+_, _*_, _^_, _≤_, _<_}
+use Prim.Native.Nat.{ℕ, zero, suc, _+_, _*_, _≤_, _<_}
 use native.Mathlib.Decide.{ℕ-discrete}
 use native.Mathlib.Nat.{mul-zero, not-suc-le-zero}
 use native.Mathlib.Omega.{arith}
@@ -25,7 +25,7 @@ use Rattle.model.specs.declared.Stats.{Stats}
 use Rattle.model.specs.Basic.{Exactly, AtMost, someBelow}
 use Rattle.model.specs.Psf.{total}
 use Rattle.model.specs.Error.{Target, cells, filteredError, filteredErrors, squaredError, mostSquared}
-use Rattle.model.specs.Ledger.{dotTotal, ledgerDots, unequal, some, faults, wrongStats, freshStats}
+use Rattle.model.specs.Ledger.{dotTotal, ledgerDots, unequal, some, faults, wrongStats, freshStats, mostCount}
 use Rattle.model.specs.State.{badTable, badStats, StateFits}
 use Rattle.model.specs.Refusal.{firstOf}
 use Rattle.model.proofs.Basic.{at-most-tail, getD-tabulate, tabulate-by}
@@ -136,9 +136,9 @@ module _ (t : Target) (dots : List ℕ) where
       = clear (faults (cells t) (t .step) (squaredError t dots) (dotTotal dots) s) (drawn .1 .0) in
       let f = s .figures in
       let first = f .«start_error» in
-      let most : ℕ = 2 ^ 44 in
       let (low, (high, _)) = clear (ltZ first (pos 0) ∷ ltZ (pos mostSquared) first ∷ []) start in
-      let (on, (off, (swaps, _))) = clear (ltb most (f .on) ∷ ltb most (f .off) ∷ ltb most (f .swaps) ∷ []) count in
+      let (on, (off, (swaps, _))) = clear (ltb mostCount (f .on) ∷ ltb mostCount (f .off) ∷ ltb mostCount (f .swaps) ∷ [])
+      count in
       record {
         table-is = tabulate-by (pos 0) (cells t) (filteredError t dots) table long (λ i h.
             equal _ _ (all-below (cells t) _ (drawn .0) i h));

@@ -1,5 +1,6 @@
 -- Each public call as a function from what it is handed to its answer and to what it leaves in what it was lent.
 use mathlib.Core.List.{List, [], _∷_}
+use mathlib.Core.Path.{_≡_}
 use Prim.Native.Nat.{ℕ, zero, suc}
 use lib.IntN.{ℤ}
 use lib.ListN.{length}
@@ -24,7 +25,7 @@ use Rattle.model.specs.Error.{Target, targetOf, targetFor, cellAt, filte
 use Rattle.model.specs.Refusal.{autocorrelationRefusal, halftoneRefusal, startRefusal}
 use Rattle.model.specs.Screen.{startDots}
 use Rattle.model.specs.State.{laterRefusal, toggleRefusal, swapRefusal}
-use Rattle.model.specs.Reference.{Reference, reference, accept}
+use Rattle.model.specs.Reference.{Reference, reference}
 use Rattle.model.specs.Reference.{Tried, accepted, declined, Performed, attempt}
 use Rattle.model.specs.Scan.{toggles, swaps, scan, converge}
 use Rattle.model.specs.Change.{toggle, swap}
@@ -66,6 +67,11 @@ pub record Outcome (A B : Type 0) : Type 0 where
   pub reply : Reply A
   pub left : B
 
+-- a function ends as a call does: it answers its reply and leaves what it leaves
+pub record Ends {A B : Type 0} (o : Outcome A B) (reply : Reply A) (left : B) : Type 0 where
+  pub reply-is : reply ≡ o .reply
+  pub left-is : left ≡ o .left
+
 -- refused with that number, all as it was, unless it is 0
 abbrev pub unless : {A B : Type 0} → ℕ → B → Outcome A B → Outcome A B
 unless zero b o = o
@@ -93,15 +99,18 @@ pub record Buffers : Type 0 where
   pub dots : List ℕ
   pub table : List ℤ
 
+abbrev pub buffers : List ℕ → List ℤ → Buffers
+buffers dots table = record { dots = dots; table = table }
+
 -- dots with their table
 abbrev pub withTable : Target → List ℕ → Buffers
-withTable t dots = record { dots = dots; table = filteredErrors t dots }
+withTable t dots = buffers dots (filteredErrors t dots)
 
 unfoldable pub startCall : Measures → (psf gray dots : List ℕ) (table : List ℤ) → Outcome Stats Buffers
 startCall m psf gray dots table =
     let t = targetFor m psf gray in
     let begun = startDots m gray dots in
-    unless (startRefusal m psf gray dots (length table)) (record { dots = dots; table = table })
+    unless (startRefusal m psf gray dots (length table)) (buffers dots table)
     (record { reply = result (freshStats t begun); left = withTable t begun })
 
 -- ---- the later calls
@@ -115,14 +124,6 @@ module _ (m : Measures) (psf gray : List ℕ) (p : Reference) where
   abbrev pub swapped : (row col row′ col′ : ℕ) → Performed Tried
   swapped row col row′ col′ =
       attempt (targetFor m psf gray) p (swap (p .dots) (cellAt (m .width) row col) (cellAt (m .width) row′ col′))
-
-  -- and what it holds once they are accepted
-  abbrev pub afterToggle : (row col : ℕ) → Reference
-  afterToggle row col = accept p (toggle (p .dots) (cellAt (m .width) row col))
-
-  abbrev pub afterSwap : (row col row′ col′ : ℕ) → Reference
-  afterSwap row col row′ col′ =
-      accept p (swap (p .dots) (cellAt (m .width) row col) (cellAt (m .width) row′ col′))
 
   -- a toggle scan
   abbrev pub toggleScanned : Performed ScanResult
@@ -140,7 +141,7 @@ module _ (m : Measures) (psf gray : List ℕ) (p : Reference) where
 unfoldable pub laterCall : {A : Type 0} → ℕ → Target → (dots : List ℕ) (table : List ℤ) → Performed A
     → Outcome A Buffers
 laterCall number t dots table done =
-    unless number (record { dots = dots; table = table })
+    unless number (buffers dots table)
     (record { reply = result (done .answer); left = withTable t (done .after .dots) })
 
 -- each with the reference that has these dots and the figures of this ledger

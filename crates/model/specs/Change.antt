@@ -3,13 +3,13 @@
 -- and document 01's formulas, from T at the cells, the peak P and c, for every step u in place of 255. That they give
 -- what a change does to E are laws (`toggle-change`, `byte-swap-change`, `swap-change` of proofs/Change.antt).
 use mathlib.Core.List.{List, [], _∷_}
-use Prim.Native.Nat.{ℕ, _*_, _-_, _≤_, _<_}
+use Prim.Native.Nat.{ℕ, _*_, _≤_, _<_}
 use lib.Dec.{eqb}
 use lib.IntN.{ℤ, pos, negsuc, _+ℤ_, _-ℤ_, _*ℤ_}
 use lib.ListN.{getD, set}
 use Rattle.model.specs.Basic.{pick, All}
 use Rattle.model.specs.Psf.{peak}
-use Rattle.model.specs.Error.{Target, kernel, filteredError, cells, squaredError, topOf}
+use Rattle.model.specs.Error.{Target, kernel, filteredError, cells, squaredError}
 use Rattle.model.specs.Ledger.{Count, onCount, offCount, swapCount, netOf, dotTotal}
 use mathlib.Core.Bool.{Bool}
 use mathlib.Core.Path.{_≡_}
@@ -59,7 +59,7 @@ pub record Legal (t : Target) (dots : List ℕ) (v : Move) : Type 0 where
   pub apart : Apart (v .sets)
   -- each new byte is another than the one there, and at most the highest
   pub another : All (λ x. getD dots (x .cell) 0 ≡ x .byte → ⊥) (v .sets)
-  pub bits : All (λ x. x .byte ≤ topOf t) (v .sets)
+  pub bits : All (λ x. x .byte ≤ t .top) (v .sets)
   -- the dots on the plate grow as its count says
   pub balance : pos (dotTotal (made dots (v .sets))) ≡ pos (dotTotal dots) +ℤ netOf (v .raises)
 
@@ -127,7 +127,3 @@ module _ (t : Target) (dots : List ℕ) where
   swapChange m n =
       swapSum (t .step) (peak (t .radius) (t .psf)) (kernel t m n) (sign dots m)
       (filteredError t dots m) (filteredError t dots n)
-
--- the dots with that of m turned
-abbrev pub flipped : List ℕ → ℕ → List ℕ
-flipped dots m = set dots m (1 - getD dots m 0)

@@ -10,7 +10,8 @@ use Rattle.model.specs.declared.Measures.{Measures}
 use Rattle.model.specs.Basic.{tabulate, AtMost}
 use Rattle.model.specs.Psf.{psfAt, autocorrelation}
 
--- what a halftone is held against: the size of the plate, the psf, the gray, and the step that one dot is worth
+-- what a halftone is held against: the size of the plate, the psf, the gray, the step that one dot is worth, and the
+-- highest dot byte
 pub record Target : Type 0 where
   pub width : ℕ
   pub height : ℕ
@@ -18,14 +19,19 @@ pub record Target : Type 0 where
   pub psf : List ℕ
   pub gray : List ℕ
   pub step : ℕ
+  pub top : ℕ
 
--- the target of document 01, where a dot is worth 255
+-- the target of document 01, where a dot byte is 0 or 1 and a dot is worth 255
 abbrev pub targetOf : ℕ → ℕ → ℕ → List ℕ → List ℕ → Target
-targetOf w h r psf gray = record { width = w; height = h; radius = r; psf = psf; gray = gray; step = 255 }
+targetOf w h r psf gray = record { width = w; height = h; radius = r; psf = psf; gray = gray; step = 255; top = 1 }
 
 -- the same by all the measures
 abbrev pub targetFor : Measures → List ℕ → List ℕ → Target
 targetFor m psf gray = targetOf (m .width) (m .height) (m .radius) psf gray
+
+-- gray is 0 (01: paper) to 255 (01: black)
+abbrev pub black : ℕ
+black = 255
 
 -- the error of cell n: step × dot - gray
 abbrev pub errorOf : (step : ℕ) (gray dots : List ℕ) → ℕ → ℤ
@@ -34,6 +40,14 @@ errorOf step gray dots n = pos step *ℤ pos (getD dots n 0) -ℤ pos (getD gray
 -- the cell at a row and a column
 abbrev pub cellAt : (width row col : ℕ) → ℕ
 cellAt width row col = row * width + col
+
+-- the largest size of a table entry: 255 × 1,024²
+abbrev pub mostFiltered : ℕ
+mostFiltered = 267386880
+
+-- the most cells of a plate: 256²
+abbrev pub mostCells : ℕ
+mostCells = 65536
 
 -- the largest E: 256² cells, each at most 255 × 267,386,880
 abbrev pub mostSquared : ℕ
@@ -80,11 +94,7 @@ module _ (t : Target) where
         sumFrom (negℤ (pos (t .radius))) (t .height + 2 * t .radius) (λ y.
         sumFrom (negℤ (pos (t .radius))) (t .width + 2 * t .radius) (λ x. perceivedError y x *ℤ perceivedError y x))
 
--- the highest dot byte
-abbrev pub topOf : Target → ℕ
-topOf t = 1
-
 -- dots for a target (01: the dots of a plate): a byte for each cell, at most the highest
 pub record Halftone (t : Target) (dots : List ℕ) : Type 0 where
   pub long : length dots ≡ cells t
-  pub bits : AtMost (topOf t) dots
+  pub bits : AtMost (t .top) dots

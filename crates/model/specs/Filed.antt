@@ -6,13 +6,12 @@ use mathlib.Core.Path.{_≡_}
 use Prim.Native.Nat.{ℕ}
 use lib.Dec.{leb}
 use lib.ListN.{getD, take, drop}
-use Rattle.model.specs.declared.FiledEnd.{FiledEnd}
 use Rattle.model.specs.declared.FiledFigures.{FiledFigures}
 use Rattle.model.specs.declared.Measures.{Measures}
 use Rattle.model.specs.Basic.{AtMost}
 use Rattle.model.specs.Text.{space, lineEnd}
 use Rattle.model.specs.Sheet.{Sheet, cellsOf, roomFor, sheetText, Valid}
-use Rattle.model.specs.Format.{Part, fixed, number, headFrom, body, parse, placeOf, ended, sheetOf}
+use Rattle.model.specs.Format.{Part, fixed, number, headFrom, body, sheetOf}
 use Rattle.model.specs.Program.{figuresName, figuresText}
 use Rattle.model.specs.Grammar.{numbers, Grammar, Taken, readByGrammar}
 
@@ -74,13 +73,6 @@ filedSheet m vs = sheetOf m (take (numbers (body m)) vs)
 
 abbrev pub filedFigures : Measures → List ℕ → FiledFigures
 filedFigures m vs = figuresOf (drop (numbers (body m)) vs)
-
--- what follows line 2, from a place on: the end of the filed sheet with its figures, or the first refusal
-unfoldable pub filedEnd : Measures → List ℕ → ℕ → FiledEnd
-filedEnd m s at =
-    let p = parse (body m ++ figureParts) s at in
-    let e = ended s (placeOf p) in
-    record { refusal = e .refusal; at = e .at; figures = filedFigures m (p .values) }
 
 abbrev pub readFiled : List ℕ → (psf gray dots table : ℕ) → Taken
 readFiled s psf gray dots table = readByGrammar filedGrammar (filedRoom psf gray dots table) s

@@ -86,14 +86,14 @@ pub record CheckBuffers : Type 0 where
   pub dots : List ℕ
   pub table : List ℤ
 
+abbrev pub checkBuffers : (psf gray dots : List ℕ) → List ℤ → CheckBuffers
+checkBuffers psf gray dots table = record { psf = psf; gray = gray; dots = dots; table = table }
+
 -- the sheet with the table of its dots, at the front of the buffers; what lies past them remains
 abbrev pub laid : Sheet → CheckBuffers → CheckBuffers
-laid s b = record {
-  psf = sets (b .psf) 0 (s .psf);
-  gray = sets (b .gray) 0 (s .gray);
-  dots = sets (b .dots) 0 (s .dots);
-  table = sets (b .table) 0 (filteredErrors (sheetTarget s) (s .dots));
-}
+laid s b =
+    checkBuffers (sets (b .psf) 0 (s .psf)) (sets (b .gray) 0 (s .gray)) (sets (b .dots) 0 (s .dots))
+    (sets (b .table) 0 (filteredErrors (sheetTarget s) (s .dots)))
 
 -- 6 first, since document 01 has no squared error with such a psf
 unfoldable pub checkSheet : Sheet → FiledFigures → CheckBuffers → Outcome Verdict CheckBuffers
@@ -110,4 +110,4 @@ checkTaken r b =
 unfoldable pub checkCall : (bytes psf gray dots : List ℕ) (table : List ℤ) → Outcome Verdict CheckBuffers
 checkCall bytes psf gray dots table =
     checkTaken (readFiled bytes (length psf) (length gray) (length dots) (length table))
-    (record { psf = psf; gray = gray; dots = dots; table = table })
+    (checkBuffers psf gray dots table)

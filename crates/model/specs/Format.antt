@@ -126,14 +126,6 @@ parse (number lo hi end ∷ ps) s at = onField (fieldAt lo hi end s at) (parse p
 abbrev pub placeOf : Parsed → Place
 placeOf p = place (p .refusal) (p .at)
 
--- parts after what was read; what was refused stays refused
-unfoldable pub parseNext : List Part → List ℕ → Place → Place
-parseNext ps s p = pick (eqb (p .refusal) 0) (placeOf (parse ps s (p .at))) p
-
-unfoldable pub fieldNext : (lo hi end : ℕ) → List ℕ → Field → Field
-fieldNext lo hi end s f =
-    pick (eqb (f .refusal) 0) (fieldAt lo hi end s (f .at)) (field (f .refusal) (f .at) 0)
-
 -- nothing follows
 abbrev pub ended : List ℕ → Place → Place
 ended s p = pick (eqb (p .refusal) 0) (pick (leb (length s) (p .at)) p (place 10 (p .at))) p

@@ -10,6 +10,7 @@ use lib.IntN.{ℤ, pos, _-ℤ_}
 use lib.Signed.{_≤ℤ_, _<ℤ_}
 use lib.ListN.{length, getD}
 use Rattle.model.specs.declared.Measures.{Measures}
+use Rattle.model.specs.declared.Size.{Size}
 use Rattle.model.specs.declared.Stats.{Stats}
 use Rattle.model.specs.declared.ScanResult.{ScanResult}
 use Rattle.model.specs.declared.ConvergeResult.{ConvergeResult}
@@ -20,13 +21,13 @@ use Rattle.model.specs.Basic.{pick}
 use Rattle.model.specs.Ledger.{countOf}
 use Rattle.model.specs.Refusal.{Refusal, _when_, firstOf, badMeasures}
 use Rattle.model.specs.Reference.{Tried, accepted, declined}
-use Rattle.model.specs.Calls.{Reply, result, refused, Outcome, unless, Buffers}
+use Rattle.model.specs.Calls.{Reply, result, refused, Outcome, unless, Buffers, buffers}
 use Rattle.model.specs.Calls.{startCall, toggleCall, swapCall, toggleScanCall, swapScanCall, convergeCall}
 use Rattle.model.specs.Lists.{Call, toggleAt, swapAt, toggleScan, swapScan, convergence}
 use Rattle.model.specs.Lists.{Result, tried, swept, rested, runBy, Held, outcome}
-use Rattle.model.specs.Sheet.{cellsOf}
-use Rattle.model.specs.SheetCalls.{SheetBuffers, readCall, writeCall}
-use Rattle.model.specs.FiledCalls.{CheckBuffers, checkCall}
+use Rattle.model.specs.Sheet.{cellsOf, valuesOf}
+use Rattle.model.specs.SheetCalls.{SheetBuffers, sheetBuffers, readCall, writeCall}
+use Rattle.model.specs.FiledCalls.{CheckBuffers, checkBuffers, checkCall}
 
 -- ---- an answer in numbers
 -- the status: 0, or document 01's refusal number
@@ -38,6 +39,28 @@ status (refused n o) = n
 abbrev pub after : {A B : Type 0} → (A → B) → B → Reply A → B
 after f b (result a) = f a
 after f b (refused n o) = b
+
+-- an answer laid out: its status is answered, and behind the pointers stands what a rule makes of it and of what stood
+-- there
+pub record Lays {A B : Type 0} (reply : Reply A) (rule : Reply A → B → B) (before : B) (number : ℕ) (behind : B)
+    : Type 0 where
+  pub status-is : number ≡ status reply
+  pub behind-is : behind ≡ rule reply before
+
+-- a call made: its answer is laid out, and the buffers are as it leaves them
+pub record Makes {A B C : Type 0} (o : Outcome A B) (rule : Reply A → C → C) (before : C) (number : ℕ) (left : B)
+    (behind : C) : Type 0 where
+  pub laid : Lays (o .reply) rule before number behind
+  pub left-is : left ≡ o .left
+
+-- the same where nothing but the status is answered
+pub record Fills {A B : Type 0} (o : Outcome A B) (number : ℕ) (left : B) : Type 0 where
+  pub status-is : number ≡ status (o .reply)
+  pub left-is : left ≡ o .left
+
+-- a value behind one pointer
+abbrev pub valueBehind : {A : Type 0} → Reply A → A → A
+valueBehind r a = after (λ v. v) a r
 
 -- ---- a slice that is to hold so many numbers
 -- 5 where there are not so many
@@ -111,7 +134,7 @@ module _ (measures psf gray dots : List ℕ) (table stats : List ℤ) where
 
   -- unless one of the two is refused, that call
   unfoldable pub overSlices : {A : Type 0} → Outcome A Buffers → Outcome A Buffers
-  overSlices o = unless (sliceRefusal measures stats) (record { dots = dots; table = table }) o
+  overSlices o = unless (sliceRefusal measures stats) (buffers dots table) o
 
   abbrev pub startOver : Outcome Stats Buffers
   startOver = overSlices (startCall m psf gray dots table)
@@ -131,6 +154,10 @@ module _ (measures psf gray dots : List ℕ) (table stats : List ℤ) where
   abbrev pub convergeOver : Outcome ConvergeResult Buffers
   convergeOver = overSlices (convergeCall m psf gray dots table s)
 
+-- behind the pointers: a fresh ledger in its slice
+abbrev pub statsBehind : Reply Stats → List ℤ → List ℤ
+statsBehind r l = after statsNumbers l r
+
 -- the change of an attempt
 abbrev pub changeOf : Tried → ℤ
 changeOf (accepted s d) = d
@@ -140,6 +167,10 @@ changeOf (declined d) = d
 abbrev pub triedNumbers : List ℤ → Tried → List ℤ
 triedNumbers l (accepted s d) = statsNumbers s
 triedNumbers l (declined d) = l
+
+-- behind the pointers: the ledger and the change
+abbrev pub triedBehind : Reply Tried → List ℤ × ℤ → List ℤ × ℤ
+triedBehind r (l, d) = (after (triedNumbers l) l r, after changeOf d r)
 
 -- an attempt that was accepted
 abbrev pub IsAccepted : Tried → Type 0
@@ -154,11 +185,19 @@ pub record Told (dots : List ℕ) (table stats : List ℤ) (a : Tried) (left : B
   pub else-kept : pos 0 ≤ℤ changeOf a
       → (left .dots ≡ dots) × (left .table ≡ table) × (triedNumbers stats a ≡ stats)
 
+-- a scan: the ledger, and behind the pointers with it the changes accepted
 abbrev pub scanNumbers : ScanResult → List ℤ
 scanNumbers r = statsNumbers (r .stats)
 
+abbrev pub scanBehind : Reply ScanResult → List ℤ × ℕ → List ℤ × ℕ
+scanBehind r (l, n) = (after scanNumbers l r, after (λ done. done .changes) n r)
+
+-- a settling: the ledger, and with it the scans
 abbrev pub convergeNumbers : ConvergeResult → List ℤ
 convergeNumbers r = statsNumbers (r .stats)
+
+abbrev pub convergeBehind : Reply ConvergeResult → List ℤ × ℕ → List ℤ × ℕ
+convergeBehind r (l, n) = (after convergeNumbers l r, after (λ done. done .scans) n r)
 
 -- ---- lists of its later calls: each handed what the last one left behind the pointers
 pub record Slices : Type 0 where
@@ -203,10 +242,17 @@ abbrev pub offsetAfter : {A : Type 0} → ℕ → Reply A → ℕ
 offsetAfter at (result a) = at
 offsetAfter at (refused n o) = o
 
+-- behind the pointers: the measures or the length, and the byte offset
+abbrev pub readBehind : Reply Measures → List ℕ × ℕ → List ℕ × ℕ
+readBehind r (l, at) = (after valuesOf l r, offsetAfter at r)
+
+abbrev pub writeBehind : Reply ℕ → ℕ × ℕ → ℕ × ℕ
+writeBehind r (n, at) = (valueBehind r n, offsetAfter at r)
+
 -- reading into a slice of measures
 abbrev pub readOver : (bytes psf gray dots measures : List ℕ) → Outcome Measures SheetBuffers
 readOver bytes psf gray dots measures =
-    overCount measuresSize measures (record { psf = psf; gray = gray; dots = dots }) (readCall bytes psf gray dots)
+    overCount measuresSize measures (sheetBuffers psf gray dots) (readCall bytes psf gray dots)
 
 -- writing from one
 abbrev pub writeOver : (measures psf gray dots out : List ℕ) → Outcome ℕ (List ℕ)
@@ -241,11 +287,22 @@ verdictNumbers v =
     ∷ pos (cellsOf (v .measures))
     ∷ []
 
+-- behind the pointers: the verdict and the byte offset
+abbrev pub checkBehind : Reply Verdict → List ℤ × ℕ → List ℤ × ℕ
+checkBehind r (l, at) = (after verdictNumbers l r, offsetAfter at r)
+
 -- checking into a slice of numbers
 abbrev pub checkOver : (bytes psf gray dots : List ℕ) (table verdict : List ℤ) → Outcome Verdict CheckBuffers
 checkOver bytes psf gray dots table verdict =
-    overCount verdictSize verdict (record { psf = psf; gray = gray; dots = dots; table = table })
-    (checkCall bytes psf gray dots table)
+    overCount verdictSize verdict (checkBuffers psf gray dots table) (checkCall bytes psf gray dots table)
+
+-- ---- pictures, by width and height
+abbrev pub sized : (width height : ℕ) → Size
+sized w h = record { width = w; height = h }
+
+-- behind the pointers: the same
+abbrev pub pictureBehind : Reply Size → ℕ × ℕ → ℕ × ℕ
+pictureBehind r (w, h) = (after (λ z. z .width) w r, after (λ z. z .height) h r)
 
 -- ---- the version of the library: 1,000,000 × major + 1,000 × minor + patch
 abbrev pub version : ℕ

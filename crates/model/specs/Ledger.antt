@@ -25,6 +25,10 @@ netOf onCount = pos 1
 netOf offCount = negsuc 0
 netOf swapCount = pos 0
 
+-- the most that a count may be
+abbrev pub mostCount : ℕ
+mostCount = 2 ^ 44
+
 -- the figures of the same start with these counts
 abbrev pub withCounts : Figures → (on off swaps : ℕ) → Figures
 withCounts f on off swaps =
@@ -101,7 +105,7 @@ module _ (cells step : ℕ) (squared : ℤ) (total : ℕ) where
 
   -- a count above 2^44
   abbrev pub wrongCount : Figures → Bool
-  wrongCount f = some (ltb (2 ^ 44) (f .on) ∷ ltb (2 ^ 44) (f .off) ∷ ltb (2 ^ 44) (f .swaps) ∷ [])
+  wrongCount f = some (ltb mostCount (f .on) ∷ ltb mostCount (f .off) ∷ ltb mostCount (f .swaps) ∷ [])
 
   -- dots at the start above width × height
   abbrev pub wrongDots : Figures → Bool

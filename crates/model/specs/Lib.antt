@@ -4,7 +4,6 @@ pub mod Basic
 pub mod Psf
 -- Table and squared error
 pub mod Error
-pub mod Window
 -- One change
 pub mod Ledger
 pub mod Change

@@ -5,10 +5,10 @@ use mathlib.Core.List.{List, [], _∷_, _++_, List·Memᴰ as In}
 use mathlib.Core.Path.{_≡_}
 use Prim.Native.Nat.{ℕ, zero, suc, _+_, _*_, _/_, _%_, _≤_, _<_}
 use lib.Dec.{eqb}
-use lib.IntN.{ℤ, pos, natAbs, _+ℤ_, _-ℤ_, _*ℤ_}
+use lib.IntN.{ℤ, pos, natAbs, _+ℤ_, _-ℤ_}
 use lib.ListN.{length, getD}
 use lib.Signed.{leZ, ltZ, _<ℤ_}
-use Rattle.model.specs.Basic.{pick, squareAt}
+use Rattle.model.specs.Basic.{pick}
 use Rattle.model.specs.Error.{cellAt}
 
 -- rows down, columns right
@@ -65,28 +65,6 @@ pub record Ordered (reach : ℕ) : Type 0 where
   pub complete : (o : Offset) → Within reach o → In o (offsets reach)
   pub farthest-first : (i j : ℕ) → i < j → j < length (offsets reach)
       → Before (getD (offsets reach) i itself) (getD (offsets reach) j itself)
-
--- as the code holds them: the first `count` of two lists, each coordinate with 6 added
-abbrev pub biased : (down right : ℕ) → Offset
-biased down right = record { down = pos down -ℤ pos 6; right = pos right -ℤ pos 6 }
-
-pub record HoldsOffsets (reach : ℕ) (downs rights : List ℕ) (count : ℕ) : Type 0 where
-  pub count-is : count ≡ length (offsets reach)
-  pub count-small : (count ≤ length downs) × (count ≤ length rights)
-  pub near : (k : ℕ) → k < count → (getD downs k 0 ≤ 12) × (getD rights k 0 ≤ 12)
-  pub at : (k : ℕ) → k < count → getD (offsets reach) k (biased 6 6) ≡ biased (getD downs k 0) (getD rights k 0)
-
--- 255 × (P - c) at such an offset, from the kernel
-abbrev pub worthAt : (radius : ℕ) (c : List ℤ) (down right : ℕ) → ℤ
-worthAt radius c down right =
-    pos 255
-    *ℤ (squareAt (pos 0) (2 * radius) c (pos 0) (pos 0)
-    -ℤ squareAt (pos 0) (2 * radius) c (pos 6 -ℤ pos down) (pos 6 -ℤ pos right))
-
--- and the first `count` of a list that holds it for each
-pub record HoldsWorths (radius : ℕ) (c : List ℤ) (downs rights : List ℕ) (count : ℕ) (worths : List ℤ) : Type 0 where
-  pub long : count ≤ length worths
-  pub at : (k : ℕ) → k < count → getD worths k (pos 0) ≡ worthAt radius c (getD downs k 0) (getD rights k 0)
 
 -- ---- where an offset leads from cell m
 module _ (width : ℕ) where

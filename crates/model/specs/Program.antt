@@ -1,6 +1,6 @@
 -- The program `settle` of document 01: what it prints, as a function of its input.
 use mathlib.Core.List.{List, [], _∷_, _++_}
-use Prim.Native.Nat.{ℕ}
+use Prim.Native.Nat.{ℕ, _≤_}
 use lib.Dec.{ltb, eqb}
 use lib.IntN.{ℤ, pos, negsuc}
 use lib.ListN.{length, replicate}
@@ -10,7 +10,7 @@ use Rattle.model.specs.declared.Stats.{Stats}
 use Rattle.model.specs.Basic.{pick}
 use Rattle.model.specs.Error.{Target, targetFor}
 use Rattle.model.specs.Calls.{Reply, result, refused, Buffers, startCall, convergeCall}
-use Rattle.model.specs.Text.{bytes, digits}
+use Rattle.model.specs.Text.{bytes, digits, Puts}
 use Rattle.model.specs.Sheet.{Sheet, cellsOf, row, sheetText}
 use Rattle.model.specs.Format.{Read, readSheet}
 use Rattle.model.specs.SheetCalls.{writtenSheet}
@@ -67,6 +67,16 @@ readText r =
     let m = s .measures in
     let text = processedText m (s .psf) (s .gray) (handedDots s) (replicate (cellsOf m) (pos 0)) in
     pick (eqb (r .refusal) 0) text (refusedText (r .refusal) (r .at))
+
+-- ---- printing
+-- the most bytes that are printed: a sheet of 4,096 cells and its ledger have no more
+abbrev pub mostPrinted : ℕ
+mostPrinted = 40960
+
+-- a text printed: put at the front of an output, its length answered
+pub record Prints (text out₀ out : List ℕ) (end : ℕ) : Type 0 where
+  pub put : Puts text out₀ out 0 end
+  pub most : end ≤ mostPrinted
 
 -- 13 for more than 32,768 bytes, before all else; the buffers hold 4,096 cells
 unfoldable pub output : List ℕ → List ℕ

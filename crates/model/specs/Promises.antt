@@ -176,8 +176,9 @@ pub record ScanPromises : Type 0 where
   -- again
   pub convergence-keeps-to-rule : (t : Target) (reach : ℕ) → 0 < t .width → (p : Reference) (n : ℕ)
       → convergeFrom t reach p n ≡ turn t reach (convergeFrom t reach) p n
-  -- and nothing else does
-  pub nothing-else-keeps-to-rule : (t : Target) (reach : ℕ) → 0 < t .width → (f : Reference → ℕ → Convergence)
+  -- and nothing else does, where a dot byte is 0 or 1
+  pub nothing-else-keeps-to-rule : (t : Target) (reach : ℕ) → 0 < t .width → t .top ≡ 1
+      → (f : Reference → ℕ → Convergence)
       → ((p : Reference) (n : ℕ) → Halftone t (p .dots) → f p n ≡ turn t reach f p n)
       → (p : Reference) (n : ℕ) → Halftone t (p .dots)
       → f p n ≡ convergeFrom t reach p n

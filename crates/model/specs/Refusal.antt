@@ -3,12 +3,13 @@
 use mathlib.Core.Bool.{Bool, true, false, _||_, _&&_, not}
 use mathlib.Core.List.{List, [], _∷_, _++_}
 use mathlib.Core.Path.{_≡_}
-use Prim.Native.Nat.{ℕ, zero, suc, _+_, _*_, _-_, _≤_}
+use Prim.Native.Nat.{ℕ, _+_, _*_, _-_, _≤_}
 use lib.Dec.{ltb, eqb}
 use lib.ListN.{length}
 use Rattle.model.specs.declared.Measures.{Measures}
 use Rattle.model.specs.Basic.{AtMost}
 use Rattle.model.specs.Psf.{total}
+use Rattle.model.specs.Error.{Target, targetFor, cells, black}
 
 infix 70 _when_
 pub data Refusal : Type 0 where
@@ -19,11 +20,6 @@ abbrev pub firstOf : List Refusal → ℕ
 firstOf [] = 0
 firstOf (n when true ∷ l) = n
 firstOf (n when false ∷ l) = firstOf l
-
--- the first of two such numbers that is not 0
-abbrev pub either : ℕ → ℕ → ℕ
-either zero n = n
-either (suc m) n = suc m
 
 -- ---- the conditions
 -- outside 1 to 256
@@ -157,18 +153,20 @@ pub record PsfFits (r : ℕ) (psf : List ℕ) : Type 0 where
   pub sum-low : 1 ≤ total psf
   pub sum-high : total psf ≤ 1024
 
--- a halftone (01: plate) with its gray and its psf, and a table of that length
-pub record HalftoneFits (w h r : ℕ) (psf gray dots : List ℕ) (table : ℕ) : Type 0 where
-  pub wide : (1 ≤ w) × (w ≤ 256)
-  pub high : (1 ≤ h) × (h ≤ 256)
-  pub psf-fits : PsfFits r psf
-  pub gray-length : length gray ≡ h * w
-  pub dots-length : length dots ≡ h * w
-  pub table-length : table ≡ h * w
-  pub bits : AtMost 1 dots
+-- a halftone (01: plate) for its target, and a table of that length
+pub record HalftoneFits (t : Target) (dots : List ℕ) (table : ℕ) : Type 0 where
+  pub wide : (1 ≤ t .width) × (t .width ≤ 256)
+  pub high : (1 ≤ t .height) × (t .height ≤ 256)
+  pub psf-fits : PsfFits (t .radius) (t .psf)
+  pub gray-length : length (t .gray) ≡ cells t
+  pub dots-length : length dots ≡ cells t
+  pub table-length : table ≡ cells t
+  pub bits : AtMost (t .top) dots
+  -- the highest dot byte is worth black
+  pub top-black : t .step * t .top ≡ black
 
 -- the same of the calls that are handed all five measures
 pub record PlateFits (m : Measures) (psf gray dots : List ℕ) (table : ℕ) : Type 0 where
   pub reach-near : m .reach ≤ 6
   pub kind-known : m .start ≤ 2
-  pub halftone : HalftoneFits (m .width) (m .height) (m .radius) psf gray dots table
+  pub halftone : HalftoneFits (targetFor m psf gray) dots table

@@ -4,14 +4,14 @@ use mathlib.Core.List.{List, [], _∷_}
 use Prim.Native.Nat.{ℕ, zero, suc, _+_}
 use lib.Dec.{eqb}
 use lib.IntN.{natAbs}
-use lib.ListN.{getD, drop}
+use lib.ListN.{getD}
 use Rattle.model.specs.declared.Progress.{Progress}
 use Rattle.model.specs.declared.ScanResult.{ScanResult}
 use Rattle.model.specs.declared.ConvergeResult.{ConvergeResult}
 use Rattle.model.specs.Basic.{pick}
 use Rattle.model.specs.Error.{Target, cells, squaredError}
 use Rattle.model.specs.Partners.{Offset, offsets, lands, partner}
-use Rattle.model.specs.Reference.{Reference, reference, Performed, accept, statsOf}
+use Rattle.model.specs.Reference.{Reference, Performed, accept, statsOf}
 use Rattle.model.specs.Change.{Move, toggle, swap, look}
 
 -- ---- what a scan attempts at cell m of these dots, in order, up to the first accepted
@@ -37,10 +37,6 @@ module _ (t : Target) where
   abbrev pub swaps : (reach : ℕ) → Rule
   swaps reach = swapsBy (offsets reach)
 
-  -- the same from the k-th offset on
-  abbrev pub swapsAfter : (reach k : ℕ) → Rule
-  swapsAfter reach k = swapsBy (drop k (offsets reach))
-
 -- ---- a scan under way: the reference, and the changes that it has accepted
 pub record Sweep : Type 0 where
   pub after : Reference
@@ -50,10 +46,6 @@ pub record Sweep : Type 0 where
 abbrev pub taking : Sweep → List Move → Sweep
 taking s [] = s
 taking s (v ∷ l) = record { after = accept (s .after) v; changes = suc (s .changes) }
-
--- the same with these dots and the figures of this progress
-abbrev pub sweepOf : List ℕ → Progress → Sweep
-sweepOf dots r = record { after = reference dots (r .stats); changes = r .changes }
 
 -- a scan answers what it has come to
 abbrev pub resultOf : Progress → ScanResult
@@ -72,10 +64,6 @@ module _ (t : Target) where
   -- what it has come to: the new ledger and its accepted changes
   unfoldable pub progressOf : Sweep → Progress
   progressOf s = record { stats = statsOf t (s .after); changes = s .changes }
-
-  -- a scan at cell m, having come to that so far
-  abbrev pub visit : Rule → List ℕ → Progress → ℕ → Sweep
-  visit rule dots r m = tryEach (sweepOf dots r) (rule dots m)
 
   -- a scan of the first n cells, in raster order
   unfoldable pub sweepTo : Rule → Reference → ℕ → Sweep

@@ -17,6 +17,10 @@ pub record Sheet : Type 0 where
   pub gray : List ℕ
   pub dots : List ℕ
 
+-- by its parts
+abbrev pub sheetWith : Measures → (psf gray dots : List ℕ) → Sheet
+sheetWith m psf gray dots = record { measures = m; psf = psf; gray = gray; dots = dots }
+
 -- how long a row of the psf is, how many entries it has, and how many cells there are
 abbrev pub sideOf : Measures → ℕ
 sideOf m = 2 * m .radius + 1

@@ -13,7 +13,7 @@ use Rattle.model.specs.declared.Writing.the-variants as Writing
 use Rattle.model.specs.Basic.{pick}
 use Rattle.model.specs.Refusal.{writeRefusal}
 use Rattle.model.specs.Calls.{Reply, result, refused, Outcome, unless}
-use Rattle.model.specs.Sheet.{Sheet, sheetText}
+use Rattle.model.specs.Sheet.{Sheet, sheetWith, sheetText}
 use Rattle.model.specs.Format.{Read, readSheet}
 
 -- the number and the values of each case of the answers in the code
@@ -31,15 +31,18 @@ pub record SheetBuffers : Type 0 where
   pub gray : List ℕ
   pub dots : List ℕ
 
--- a sheet that was read stands at the front of the buffers; one that was refused leaves them
+abbrev pub sheetBuffers : (psf gray dots : List ℕ) → SheetBuffers
+sheetBuffers psf gray dots = record { psf = psf; gray = gray; dots = dots }
+
+-- a sheet at the front of the buffers; what lies past it remains
+abbrev pub stored : Sheet → SheetBuffers → SheetBuffers
+stored s b = sheetBuffers (sets (b .psf) 0 (s .psf)) (sets (b .gray) 0 (s .gray)) (sets (b .dots) 0 (s .dots))
+
+-- a sheet that was read is stored; one that was refused leaves the buffers
 abbrev pub outcomeOf : Read → (psf gray dots : List ℕ) → Outcome Measures SheetBuffers
 outcomeOf r psf gray dots = record {
   reply = pick (eqb (r .refusal) 0) (result (r .sheet .measures)) (refused (r .refusal) (r .at));
-  left = record {
-    psf = sets psf 0 (r .sheet .psf);
-    gray = sets gray 0 (r .sheet .gray);
-    dots = sets dots 0 (r .sheet .dots);
-  };
+  left = stored (r .sheet) (sheetBuffers psf gray dots);
 }
 
 unfoldable pub readCall : (bytes psf gray dots : List ℕ) → Outcome Measures SheetBuffers
@@ -52,7 +55,7 @@ withGiven m =
     record { width = m .width; height = m .height; radius = m .radius; reach = m .reach; start = 2 }
 
 abbrev pub writtenSheet : Measures → (psf gray dots : List ℕ) → Sheet
-writtenSheet m psf gray dots = record { measures = withGiven m; psf = psf; gray = gray; dots = dots }
+writtenSheet m psf gray dots = sheetWith (withGiven m) psf gray dots
 
 -- the text where it fits, else 12 at the length of the output
 abbrev pub writeText : (text out : List ℕ) → Outcome ℕ (List ℕ)

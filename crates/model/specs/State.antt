@@ -2,7 +2,7 @@
 -- a table and a ledger (`Stats`).
 use mathlib.Core.List.{List, [], _∷_, _++_}
 use mathlib.Core.Path.{_≡_}
-use Prim.Native.Nat.{ℕ, _^_, _≤_}
+use Prim.Native.Nat.{ℕ, _≤_}
 use lib.Dec.{eqb}
 use lib.IntN.{ℤ, pos, _*ℤ_}
 use lib.Signed.{_≤ℤ_}
@@ -13,7 +13,7 @@ use Rattle.model.specs.Error.{Target, targetFor, cellAt, mostSquared, ce
 use Rattle.model.specs.Error.{filteredErrors, filteredError, squaredError}
 use Rattle.model.specs.Refusal.{Refusal, _when_, firstOf, badCell, badCells, badPair, inputRefusals}
 use Rattle.model.specs.Refusal.{PlateFits}
-use Rattle.model.specs.Ledger.{changes, ledgerDots, fallOf, dotTotal, unequal, wrongStats}
+use Rattle.model.specs.Ledger.{mostCount, changes, ledgerDots, fallOf, dotTotal, unequal, wrongStats}
 use Rattle.model.specs.Basic.{someBelow}
 
 module _ (t : Target) (dots : List ℕ) where
@@ -79,9 +79,9 @@ pub record StateFits (t : Target) (dots : List ℕ) (table : List ℤ) (s : Stat
   pub error-is : s .error ≡ squaredError t dots
   pub start-low : pos 0 ≤ℤ s .figures .«start_error»
   pub start-high : s .figures .«start_error» ≤ℤ pos mostSquared
-  pub on-few : s .figures .on ≤ 2 ^ 44
-  pub off-few : s .figures .off ≤ 2 ^ 44
-  pub swaps-few : s .figures .swaps ≤ 2 ^ 44
+  pub on-few : s .figures .on ≤ mostCount
+  pub off-few : s .figures .off ≤ mostCount
+  pub swaps-few : s .figures .swaps ≤ mostCount
   pub dots-fit : s .figures .«start_dots» ≤ cells t
   pub total-is : pos (dotTotal dots) ≡ ledgerDots (s .figures)
   pub fall : (pos (t .step) *ℤ pos (changes (s .figures))) ≤ℤ fallOf s

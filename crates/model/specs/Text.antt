@@ -1,5 +1,5 @@
--- Texts of document 01: their bytes, the items that a reader yields (a word, a number or a line end), and a number in
--- decimal.
+-- Texts of document 01: their bytes, the items that a reader yields (a word, a number or a line end), a number in
+-- decimal, and a text put into an output.
 use mathlib.Core.Bool.{Bool, false, _&&_}
 use mathlib.Core.List.{List, [], _∷_, _++_}
 use mathlib.Core.Path.{_≡_}
@@ -7,7 +7,8 @@ use Prim.Native.Char.{code}
 use Prim.Native.Nat.{ℕ, zero, suc, _+_, _-_, _*_, _/_, _%_}
 use Prim.Native.String.{String, [] as empty, _∷_ as _then_}
 use lib.Dec.{leb, ltb, eqb}
-use lib.ListN.{drop}
+use lib.ListN.{length, drop}
+use lib.Seq.{sets}
 use Rattle.model.specs.declared.Item.{Item}
 use Rattle.model.specs.declared.Item.the-variants.{Word, Number, LineEnd, Other}
 use Rattle.model.specs.declared.Step.{Step}
@@ -44,6 +45,11 @@ digitsIn (suc f) n =
 
 unfoldable pub digits : ℕ → List ℕ
 digits n = digitsIn n n
+
+-- a text put at a place of an output: the place after it is answered, and what lies before and past it stays
+pub record Puts (text out₀ out : List ℕ) (at end : ℕ) : Type 0 where
+  pub end-is : end ≡ at + length text
+  pub bytes-are : out ≡ sets out₀ at text
 
 -- ---- reading: what stands at the beginning of a list that begins at a place
 -- a number below a limit as it is, and the limit for every other; a number above 256 is yielded as 257

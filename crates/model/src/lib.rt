@@ -1,5 +1,20 @@
 // The public types of the plate maker. What they mean, and the promises, are in specs/.
 
+// The most cells of a plate: 256².
+pub const MOST_CELLS: usize = 65536;
+
+// The largest squared error.
+pub const MOST_SQUARED: i64 = 4468483974758400;
+
+// The largest count of a ledger: 2^44.
+pub const MOST_COUNT: u64 = 17592186044416;
+
+// The limit of a number in a picture's header, which stands for it and all above.
+pub const MOST_VALUE: usize = 65536;
+
+// The most bytes that the program prints.
+pub const MOST_PRINTED: usize = 40960;
+
 // Document 01's measures: the size of the plate, the radius of the psf, the reach of a swap and the kind of start.
 pub struct Measures {
     pub width: usize,
@@ -7,6 +22,12 @@ pub struct Measures {
     pub radius: usize,
     pub reach: usize,
     pub start: usize,
+}
+
+// A cell of a plate by its row and its column.
+pub struct Cell {
+    pub row: usize,
+    pub col: usize,
 }
 
 // The figures of a ledger that are kept from the start on: the squared error and the dots at the start, and how many

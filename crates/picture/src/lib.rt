@@ -1,7 +1,6 @@
 // The public calls that read and write PBM and PGM files, and count the dots of each row. Everything is judged before
 // anything is stored.
-ghost use mathlib.Core.Path.{_≡_};
-ghost use Rattle.model.specs.Calls.{filled};
+ghost use Rattle.model.specs.Calls.{Ends, filled};
 ghost use Rattle.model.specs.PictureCalls.{pictureOf, writtenOf, readPbmCall, readPgmCall, writePbmCall, writePgmCall};
 ghost use Rattle.model.specs.PictureCalls.{countRowsCall};
 use model::Filled;
@@ -26,8 +25,7 @@ use picture_raster::unpack_rows;
 
 // Reads a PBM into dots that are long enough.
 pub fn read_pbm(file: &[u8], dots: &mut [u8]) -> Picture
-    ensures { λ r. ⌜ pictureOf r ≡ readPbmCall (now (file .entry)) (now (dots .entry)) .reply ⌝ }
-    ensures { λ _. ⌜ now (dots .exit) ≡ readPbmCall (now (file .entry)) (now (dots .entry)) .left ⌝ }
+    ensures { λ r. ⌜ Ends (readPbmCall (now (file .entry)) (now (dots .entry))) (pictureOf r) (now (dots .exit)) ⌝ }
 {
     let header = pbm_header(file);
     let number = judge_pbm(header, file.len(), dots.len());
@@ -44,8 +42,7 @@ pub fn read_pbm(file: &[u8], dots: &mut [u8]) -> Picture
 
 // Reads a PGM into gray that is long enough.
 pub fn read_pgm(file: &[u8], gray: &mut [u8]) -> Picture
-    ensures { λ r. ⌜ pictureOf r ≡ readPgmCall (now (file .entry)) (now (gray .entry)) .reply ⌝ }
-    ensures { λ _. ⌜ now (gray .exit) ≡ readPgmCall (now (file .entry)) (now (gray .entry)) .left ⌝ }
+    ensures { λ r. ⌜ Ends (readPgmCall (now (file .entry)) (now (gray .entry))) (pictureOf r) (now (gray .exit)) ⌝ }
 {
     let header = pgm_header(file);
     let number = judge_pgm(header, file.len(), gray.len());
@@ -62,8 +59,7 @@ pub fn read_pgm(file: &[u8], gray: &mut [u8]) -> Picture
 
 // Writes dots as a PBM into an output that is long enough.
 pub fn write_pbm(size: Size, dots: &[u8], out: &mut [u8]) -> Written
-    ensures { λ r. ⌜ writtenOf r ≡ writePbmCall size (now (dots .entry)) (now (out .entry)) .reply ⌝ }
-    ensures { λ _. ⌜ now (out .exit) ≡ writePbmCall size (now (dots .entry)) (now (out .entry)) .left ⌝ }
+    ensures { λ r. ⌜ Ends (writePbmCall size (now (dots .entry)) (now (out .entry))) (writtenOf r) (now (out .exit)) ⌝ }
 {
     let number = judge_bits(size, dots);
     if number != 0 {
@@ -80,8 +76,7 @@ pub fn write_pbm(size: Size, dots: &[u8], out: &mut [u8]) -> Written
 
 // Writes gray as a PGM into an output that is long enough.
 pub fn write_pgm(size: Size, gray: &[u8], out: &mut [u8]) -> Written
-    ensures { λ r. ⌜ writtenOf r ≡ writePgmCall size (now (gray .entry)) (now (out .entry)) .reply ⌝ }
-    ensures { λ _. ⌜ now (out .exit) ≡ writePgmCall size (now (gray .entry)) (now (out .entry)) .left ⌝ }
+    ensures { λ r. ⌜ Ends (writePgmCall size (now (gray .entry)) (now (out .entry))) (writtenOf r) (now (out .exit)) ⌝ }
 {
     let number = judge_picture(size, gray.len());
     if number != 0 {
@@ -98,8 +93,7 @@ pub fn write_pgm(size: Size, gray: &[u8], out: &mut [u8]) -> Written
 
 // Counts the dots of each row of a packed raster.
 pub fn count_rows(size: Size, raster: &[u8], counts: &mut [u32]) -> Filled
-    ensures { λ r. ⌜ filled r ≡ countRowsCall size (now (raster .entry)) (now (counts .entry)) .reply ⌝ }
-    ensures { λ _. ⌜ now (counts .exit) ≡ countRowsCall size (now (raster .entry)) (now (counts .entry)) .left ⌝ }
+    ensures { λ r. ⌜ Ends (countRowsCall size (now (raster .entry)) (now (counts .entry))) (filled r) (now (counts .exit)) ⌝ }
 {
     let number = judge_rows(size, raster.len(), counts.len());
     if number != 0 {

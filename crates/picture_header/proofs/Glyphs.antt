@@ -18,7 +18,7 @@ use lib.Seq.{drop-cons}
 use Rattle.model.specs.declared.Found.{Found}
 use Rattle.model.specs.Text.{isDigit, growTo}
 use Rattle.model.specs.Netpbm.{isSpace, opensComment}
-use Rattle.model.specs.PictureHeader.{Glyph, commenting, glyphs, glyphsAt, found, spacesFrom, numberFrom}
+use Rattle.model.specs.PictureHeader.{Glyph, commenting, glyphs, glyphsAt, found, spacesFrom, mostValue, numberFrom}
 use Rattle.model.specs.PictureHeader.{numberNext, endNext}
 use Rattle.model.proofs.Basic.{pick-cases}
 use Rattle.picture_header.specs.Bare.{Bare}
@@ -68,7 +68,7 @@ module _ {s : List ℕ} {at next : ℕ} (b : Bare s at next) where
   -- digits
   pub number-more : (some : Bool) (v : ℕ) → next < length s → isDigit (getD s next 0) ≡ true
       → numberFrom some v at (glyphsAt s at)
-      ≡ numberFrom true (growTo 65536 v (getD s next 0)) (next + 1) (glyphsAt s (next + 1))
+      ≡ numberFrom true (growTo mostValue v (getD s next 0)) (next + 1) (glyphsAt s (next + 1))
   unfolding numberFrom
   number-more some v h e = rw (bare-here h, e)
 
@@ -88,20 +88,20 @@ pub field-by : (s : List ℕ) (f : Found) {gap n : Found} → gap ≡ spacesFrom
 unfolding numberNext
 field-by s f e e′ = rw (← e, ← e′)
 
--- none is above 65536
-grown-most : (v b : ℕ) → growTo 65536 v b ≤ 65536
+-- none is above the limit
+grown-most : (v b : ℕ) → growTo mostValue v b ≤ mostValue
 grown-most v b =
     let n = v * 10 + (b - 48) in
-    pick-cases (λ (k : ℕ). k ≤ 65536) (ltb n 65536) (λ t. omega (arith, ltb-true n 65536 t)) (λ t. omega arith)
+    pick-cases (λ (k : ℕ). k ≤ mostValue) (ltb n mostValue) (λ t. omega (arith, ltb-true n mostValue t)) (λ t. omega arith)
 
-number-most : (some : Bool) (v at : ℕ) (l : List Glyph) → v ≤ 65536 → numberFrom some v at l .value ≤ 65536
+number-most : (some : Bool) (v at : ℕ) (l : List Glyph) → v ≤ mostValue → numberFrom some v at l .value ≤ mostValue
 unfolding numberFrom
 number-most some v at [] h = h
 number-most some v at (g ∷ l) h =
-    pick-cases (λ (f : Found). f .value ≤ 65536) (isDigit (g .byte))
-    (λ t. number-most true (growTo 65536 v (g .byte)) (g .next) l (grown-most v (g .byte))) (λ t. h)
+    pick-cases (λ (f : Found). f .value ≤ mostValue) (isDigit (g .byte))
+    (λ t. number-most true (growTo mostValue v (g .byte)) (g .next) l (grown-most v (g .byte))) (λ t. h)
 
-pub field-most : (s : List ℕ) (f : Found) → numberNext s f .value ≤ 65536
+pub field-most : (s : List ℕ) (f : Found) → numberNext s f .value ≤ mostValue
 unfolding numberNext
 field-most s f =
     let at = spacesFrom false (f .at) (glyphsAt s (f .at)) .at in

@@ -4,9 +4,10 @@ ghost use mathlib.Core.Path.{_≡_};
 ghost use Prim.Native.Nat.{_≤_};
 ghost use Rattle.model.specs.Netpbm.{isSpace, endsComment};
 ghost use Rattle.model.specs.PictureHeader.{commenting, glyphsAt, spacesFrom, numberFrom, magic, numberNext, endNext};
-ghost use Rattle.model.specs.PictureHeader.{pbmHeader, pgmHeader};
+ghost use Rattle.model.specs.PictureHeader.{mostValue, pbmHeader, pgmHeader};
 ghost use Rattle.picture_header.specs.Bare.{Bare};
 use model::Found;
+use model::MOST_VALUE;
 use model::PictureHeader;
 use text_reader::is_digit;
 use text_reader::with_digit;
@@ -91,7 +92,7 @@ fn read_number(s: &[u8], at: usize) -> Found
             };
         }
         some = true;
-        value = with_digit(65536, value, b);
+        value = with_digit(MOST_VALUE, value, b);
         end = next + 1;
         next = bare_at(s, end);
     }
@@ -150,7 +151,7 @@ fn read_magic(s: &[u8], kind: u8) -> Found
 // The header of a PBM.
 pub fn pbm_header(s: &[u8]) -> PictureHeader
     ensures { λ r. ⌜ r ≡ pbmHeader (now (s .entry)) ⌝ }
-    ensures { λ r. ⌜ (r .width ≤ 65536) × (r .height ≤ 65536) ⌝ }
+    ensures { λ r. ⌜ (r .width ≤ mostValue) × (r .height ≤ mostValue) ⌝ }
 {
     let width = next_number(s, read_magic(s, 52));
     let height = next_number(s, width);
@@ -167,7 +168,7 @@ pub fn pbm_header(s: &[u8]) -> PictureHeader
 // The header of a PGM.
 pub fn pgm_header(s: &[u8]) -> PictureHeader
     ensures { λ r. ⌜ r ≡ pgmHeader (now (s .entry)) ⌝ }
-    ensures { λ r. ⌜ (r .width ≤ 65536) × (r .height ≤ 65536) ⌝ }
+    ensures { λ r. ⌜ (r .width ≤ mostValue) × (r .height ≤ mostValue) ⌝ }
 {
     let width = next_number(s, read_magic(s, 53));
     let height = next_number(s, width);

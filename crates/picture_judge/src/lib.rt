@@ -5,6 +5,7 @@ ghost use mathlib.Core.Path.{_≡_};
 ghost use Prim.Native.Nat.{_≤_};
 ghost use lib.ListN.{length};
 ghost use Rattle.model.specs.Refusal.{firstOf, outside, badSize, badDot};
+ghost use Rattle.model.specs.PictureHeader.{mostValue};
 ghost use Rattle.model.specs.PictureCalls.{badLayout, badRoom, pictureRefusals, pbmRefusals, pgmRefusals};
 ghost use Rattle.model.specs.PictureCalls.{countRowsRefusals};
 use judge_parts::judge_dots;
@@ -71,7 +72,7 @@ fn judge_room(needed: usize, room: usize) -> u32
 
 // The whole list of reading a PBM.
 pub fn judge_pbm(h: PictureHeader, file: usize, room: usize) -> u32
-    requires { ⌜ (h .width ≤ 65536) × (h .height ≤ 65536) ⌝ }
+    requires { ⌜ (h .width ≤ mostValue) × (h .height ≤ mostValue) ⌝ }
     ensures { λ r. ⌜ r ≡ firstOf (pbmRefusals h file room) ⌝ }
 {
     let row_bytes = (h.width + 7) / 8;
@@ -84,7 +85,7 @@ pub fn judge_pbm(h: PictureHeader, file: usize, room: usize) -> u32
 
 // The whole list of reading a PGM.
 pub fn judge_pgm(h: PictureHeader, file: usize, room: usize) -> u32
-    requires { ⌜ (h .width ≤ 65536) × (h .height ≤ 65536) ⌝ }
+    requires { ⌜ (h .width ≤ mostValue) × (h .height ≤ mostValue) ⌝ }
     ensures { λ r. ⌜ r ≡ firstOf (pgmRefusals h file room) ⌝ }
 {
     let cells = h.height * h.width;

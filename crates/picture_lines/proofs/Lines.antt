@@ -8,6 +8,7 @@ use native.Mathlib.Nat.{mul-le-mul}
 use native.Mathlib.Omega.{arith}
 use lib.ListN.{length, length-append}
 use Rattle.model.specs.declared.Size.{Size}
+use Rattle.model.specs.Error.{mostCells}
 use Rattle.model.specs.Text.{bytes, digits}
 use Rattle.model.specs.Netpbm.{InSize, sizeLine, pgmHead, packedSize, cellsIn}
 
@@ -25,5 +26,5 @@ module _ (z : Size) where
       let few : (z .width + 7) / 8 ≤ 32 = omega (arith, i .wide .1) in
       mul-le-mul (i .high .1) few
 
-  pub cells-most : InSize z → cellsIn z ≤ 65536
+  pub cells-most : InSize z → cellsIn z ≤ mostCells
   cells-most i = mul-le-mul (i .high .1) (i .wide .1)

@@ -2,38 +2,35 @@
 ghost use mathlib.Core.Path.{_≡_};
 ghost use Prim.Native.Nat.{_+_, _*_, _≤_};
 ghost use lib.ListN.{length};
-ghost use lib.Seq.{sets};
+ghost use Rattle.model.specs.Text.{Puts};
 ghost use Rattle.model.specs.Netpbm.{InSize, sizeLine, pbmHead, pgmHead, packedSize, cellsIn};
 use model::Size;
-use sheet_write::put_bytes;
-use sheet_write::put_field;
+use sheet_write::put_row;
+use slices::put_bytes;
 use text_decimal::digit_count;
 
 // width and height in a line
 fn put_size(out: &mut [u8], at: usize, size: Size) -> usize
     requires { ⌜ at + length (sizeLine size) ≤ length (now out) ⌝ }
-    ensures { λ r. ⌜ r ≡ at + length (sizeLine size) ⌝ }
-    ensures { λ _. ⌜ now (out .exit) ≡ sets (now (out .entry)) at (sizeLine size) ⌝ }
+    ensures { λ r. ⌜ Puts (sizeLine size) (now (out .entry)) (now (out .exit)) at r ⌝ }
 {
-    let next = put_field(out, at, size.width, 32);
-    put_field(out, next, size.height, 10)
+    let values = [size.width, size.height];
+    put_row(out, at, &values)
 }
 
-// Puts the lines of a PBM at the front of an output that is long enough.
+// Puts the lines of a PBM at the front of an output that is long enough, and answers the place after them.
 pub fn put_pbm_head(out: &mut [u8], size: Size) -> usize
     requires { ⌜ length (pbmHead size) ≤ length (now out) ⌝ }
-    ensures { λ r. ⌜ r ≡ length (pbmHead size) ⌝ }
-    ensures { λ _. ⌜ now (out .exit) ≡ sets (now (out .entry)) 0 (pbmHead size) ⌝ }
+    ensures { λ r. ⌜ Puts (pbmHead size) (now (out .entry)) (now (out .exit)) 0 r ⌝ }
 {
     let line = put_bytes(out, 0, b"P4\n");
     put_size(out, line, size)
 }
 
-// Puts the lines of a PGM at the front of an output that is long enough.
+// Puts the lines of a PGM at the front of an output that is long enough, and answers the place after them.
 pub fn put_pgm_head(out: &mut [u8], size: Size) -> usize
     requires { ⌜ length (pgmHead size) ≤ length (now out) ⌝ }
-    ensures { λ r. ⌜ r ≡ length (pgmHead size) ⌝ }
-    ensures { λ _. ⌜ now (out .exit) ≡ sets (now (out .entry)) 0 (pgmHead size) ⌝ }
+    ensures { λ r. ⌜ Puts (pgmHead size) (now (out .entry)) (now (out .exit)) 0 r ⌝ }
 {
     let line = put_bytes(out, 0, b"P5\n");
     let next = put_size(out, line, size);

@@ -3,13 +3,16 @@
 // pointers the rest. A refusal changes nothing but, of a sheet, filed or not, the byte offset.
 ghost use mathlib.Core.Path.{_≡_};
 ghost use Rattle.model.specs.Basic.{AtMost};
-ghost use Rattle.model.specs.Calls.{autocorrelationCall, filteredErrorCall, squaredErrorCall};
-ghost use Rattle.model.specs.Interface.{status, after, statsNumbers};
-ghost use Rattle.model.specs.Interface.{startOver, toggleOver, swapOver, toggleScanOver, swapScanOver, convergeOver};
-ghost use Rattle.model.specs.Interface.{changeOf, triedNumbers, scanNumbers, convergeNumbers};
-ghost use Rattle.model.specs.Interface.{offsetAfter, readOver, writeOver, verdictNumbers, checkOver, version};
-ghost use Rattle.model.specs.Sheet.{valuesOf};
+ghost use Rattle.model.specs.Calls.{buffers, autocorrelationCall, filteredErrorCall, squaredErrorCall};
+ghost use Rattle.model.specs.SheetCalls.{sheetBuffers};
+ghost use Rattle.model.specs.FiledCalls.{checkBuffers};
 ghost use Rattle.model.specs.PictureCalls.{readPbmCall, readPgmCall, writePbmCall, writePgmCall, countRowsCall};
+ghost use Rattle.model.specs.Interface.{Makes, Fills, valueBehind, statsBehind, triedBehind, scanBehind};
+ghost use Rattle.model.specs.Interface.{convergeBehind};
+ghost use Rattle.model.specs.Interface.{startOver, toggleOver, swapOver, toggleScanOver, swapScanOver, convergeOver};
+ghost use Rattle.model.specs.Interface.{readBehind, readOver, writeBehind, writeOver, checkBehind, checkOver};
+ghost use Rattle.model.specs.Interface.{pictureBehind, sized, version};
+use model::Cell;
 use model::Size;
 use platemaker_answers::lay_filled;
 use platemaker_answers::lay_reading;
@@ -38,9 +41,7 @@ pub extern "C" fn pm_version() -> u32
 // The autocorrelation.
 #[no_mangle]
 pub extern "C" fn pm_autocorrelation(radius: usize, psf: &[u8], out: &mut [i32]) -> u32
-    ensures { λ r. ⌜ (let o = autocorrelationCall radius (now (psf .entry)) (now (out .entry)) in
-        (r ≡ status (o .reply))
-        × (now (out .exit) ≡ o .left)) ⌝ }
+    ensures { λ r. ⌜ Fills (autocorrelationCall radius (now (psf .entry)) (now (out .entry))) r (now (out .exit)) ⌝ }
 {
     let answer = filter::autocorrelation(radius, psf, out);
     lay_filled(answer)
@@ -57,10 +58,8 @@ pub extern "C" fn pm_filtered_error(
     dots: &[u8],
     table: &mut [i32],
 ) -> u32
-    ensures { λ r. ⌜ (let o = filteredErrorCall width height radius
-        (now (psf .entry)) (now (gray .entry)) (now (dots .entry)) (now (table .entry)) in
-        (r ≡ status (o .reply))
-        × (now (table .exit) ≡ o .left)) ⌝ }
+    ensures { λ r. ⌜ Fills (filteredErrorCall width height radius (now (psf .entry)) (now (gray .entry))
+        (now (dots .entry)) (now (table .entry))) r (now (table .exit)) ⌝ }
 {
     let answer = filter::filtered_error(width, height, radius, psf, gray, dots, table);
     lay_filled(answer)
@@ -77,10 +76,8 @@ pub extern "C" fn pm_squared_error(
     dots: &[u8],
     error: &mut i64,
 ) -> u32
-    ensures { λ r. ⌜ (let o = squaredErrorCall width height radius
-        (now (psf .entry)) (now (gray .entry)) (now (dots .entry)) in
-        (r ≡ status (o .reply))
-        × (now (error .exit) ≡ after (λ e. e) (now (error .entry)) (o .reply))) ⌝ }
+    ensures { λ r. ⌜ Makes (squaredErrorCall width height radius (now (psf .entry)) (now (gray .entry))
+        (now (dots .entry))) valueBehind (now (error .entry)) r tt (now (error .exit)) ⌝ }
 {
     let answer = filter::squared_error(width, height, radius, psf, gray, dots);
     lay_squared_error(answer, error)
@@ -96,12 +93,9 @@ pub extern "C" fn pm_start(
     table: &mut [i32],
     stats: &mut [i64],
 ) -> u32
-    ensures { λ r. ⌜ (let o = startOver (now (measures .entry)) (now (psf .entry)) (now (gray .entry))
-        (now (dots .entry)) (now (table .entry)) (now (stats .entry)) in
-        (r ≡ status (o .reply))
-        × (now (dots .exit) ≡ o .left .dots)
-        × (now (table .exit) ≡ o .left .table)
-        × (now (stats .exit) ≡ after statsNumbers (now (stats .entry)) (o .reply))) ⌝ }
+    ensures { λ r. ⌜ Makes (startOver (now (measures .entry)) (now (psf .entry)) (now (gray .entry)) (now (dots .entry))
+        (now (table .entry)) (now (stats .entry))) statsBehind (now (stats .entry)) r
+        (buffers (now (dots .exit)) (now (table .exit))) (now (stats .exit)) ⌝ }
     ensures { λ _. ⌜ AtMost 255 (now (gray .entry)) ⌝ }
 {
     let number = judge_numbers(measures, stats);
@@ -126,13 +120,10 @@ pub extern "C" fn pm_try_toggle(
     col: usize,
     change: &mut i64,
 ) -> u32
-    ensures { λ r. ⌜ (let o = toggleOver (now (measures .entry)) (now (psf .entry)) (now (gray .entry))
-        (now (dots .entry)) (now (table .entry)) (now (stats .entry)) row col in
-        (r ≡ status (o .reply))
-        × (now (dots .exit) ≡ o .left .dots)
-        × (now (table .exit) ≡ o .left .table)
-        × (now (stats .exit) ≡ after (triedNumbers (now (stats .entry))) (now (stats .entry)) (o .reply))
-        × (now (change .exit) ≡ after changeOf (now (change .entry)) (o .reply))) ⌝ }
+    ensures { λ r. ⌜ Makes (toggleOver (now (measures .entry)) (now (psf .entry)) (now (gray .entry))
+        (now (dots .entry)) (now (table .entry)) (now (stats .entry)) row col)
+        triedBehind (now (stats .entry), now (change .entry)) r
+        (buffers (now (dots .exit)) (now (table .exit))) (now (stats .exit), now (change .exit)) ⌝ }
 {
     let number = judge_numbers(measures, stats);
     if number != 0 {
@@ -140,7 +131,8 @@ pub extern "C" fn pm_try_toggle(
     }
     let sizes = measures_of(measures);
     let ledger = stats_of(stats);
-    let answer = search::try_toggle(sizes, psf, gray, dots, table, ledger, row, col);
+    let at = Cell { row: row, col: col };
+    let answer = search::try_toggle(sizes, psf, gray, dots, table, ledger, at);
     lay_attempt(answer, stats, change)
 }
 
@@ -159,13 +151,10 @@ pub extern "C" fn pm_try_swap(
     col2: usize,
     change: &mut i64,
 ) -> u32
-    ensures { λ r. ⌜ (let o = swapOver (now (measures .entry)) (now (psf .entry)) (now (gray .entry))
-        (now (dots .entry)) (now (table .entry)) (now (stats .entry)) row col row2 col2 in
-        (r ≡ status (o .reply))
-        × (now (dots .exit) ≡ o .left .dots)
-        × (now (table .exit) ≡ o .left .table)
-        × (now (stats .exit) ≡ after (triedNumbers (now (stats .entry))) (now (stats .entry)) (o .reply))
-        × (now (change .exit) ≡ after changeOf (now (change .entry)) (o .reply))) ⌝ }
+    ensures { λ r. ⌜ Makes (swapOver (now (measures .entry)) (now (psf .entry)) (now (gray .entry)) (now (dots .entry))
+        (now (table .entry)) (now (stats .entry)) row col row2 col2)
+        triedBehind (now (stats .entry), now (change .entry)) r
+        (buffers (now (dots .exit)) (now (table .exit))) (now (stats .exit), now (change .exit)) ⌝ }
 {
     let number = judge_numbers(measures, stats);
     if number != 0 {
@@ -173,7 +162,12 @@ pub extern "C" fn pm_try_swap(
     }
     let sizes = measures_of(measures);
     let ledger = stats_of(stats);
-    let answer = search::try_swap(sizes, psf, gray, dots, table, ledger, row, col, row2, col2);
+    let at = Cell { row: row, col: col };
+    let to = Cell {
+        row: row2,
+        col: col2,
+    };
+    let answer = search::try_swap(sizes, psf, gray, dots, table, ledger, at, to);
     lay_attempt(answer, stats, change)
 }
 
@@ -188,13 +182,10 @@ pub extern "C" fn pm_toggle_scan(
     stats: &mut [i64],
     changes: &mut u64,
 ) -> u32
-    ensures { λ r. ⌜ (let o = toggleScanOver (now (measures .entry)) (now (psf .entry)) (now (gray .entry))
-        (now (dots .entry)) (now (table .entry)) (now (stats .entry)) in
-        (r ≡ status (o .reply))
-        × (now (dots .exit) ≡ o .left .dots)
-        × (now (table .exit) ≡ o .left .table)
-        × (now (stats .exit) ≡ after scanNumbers (now (stats .entry)) (o .reply))
-        × (now (changes .exit) ≡ after (λ done. done .changes) (now (changes .entry)) (o .reply))) ⌝ }
+    ensures { λ r. ⌜ Makes (toggleScanOver (now (measures .entry)) (now (psf .entry)) (now (gray .entry))
+        (now (dots .entry)) (now (table .entry)) (now (stats .entry)))
+        scanBehind (now (stats .entry), now (changes .entry)) r
+        (buffers (now (dots .exit)) (now (table .exit))) (now (stats .exit), now (changes .exit)) ⌝ }
 {
     let number = judge_numbers(measures, stats);
     if number != 0 {
@@ -217,13 +208,10 @@ pub extern "C" fn pm_swap_scan(
     stats: &mut [i64],
     changes: &mut u64,
 ) -> u32
-    ensures { λ r. ⌜ (let o = swapScanOver (now (measures .entry)) (now (psf .entry)) (now (gray .entry))
-        (now (dots .entry)) (now (table .entry)) (now (stats .entry)) in
-        (r ≡ status (o .reply))
-        × (now (dots .exit) ≡ o .left .dots)
-        × (now (table .exit) ≡ o .left .table)
-        × (now (stats .exit) ≡ after scanNumbers (now (stats .entry)) (o .reply))
-        × (now (changes .exit) ≡ after (λ done. done .changes) (now (changes .entry)) (o .reply))) ⌝ }
+    ensures { λ r. ⌜ Makes (swapScanOver (now (measures .entry)) (now (psf .entry)) (now (gray .entry))
+        (now (dots .entry)) (now (table .entry)) (now (stats .entry)))
+        scanBehind (now (stats .entry), now (changes .entry)) r
+        (buffers (now (dots .exit)) (now (table .exit))) (now (stats .exit), now (changes .exit)) ⌝ }
 {
     let number = judge_numbers(measures, stats);
     if number != 0 {
@@ -246,13 +234,10 @@ pub extern "C" fn pm_converge(
     stats: &mut [i64],
     scans: &mut u64,
 ) -> u32
-    ensures { λ r. ⌜ (let o = convergeOver (now (measures .entry)) (now (psf .entry)) (now (gray .entry))
-        (now (dots .entry)) (now (table .entry)) (now (stats .entry)) in
-        (r ≡ status (o .reply))
-        × (now (dots .exit) ≡ o .left .dots)
-        × (now (table .exit) ≡ o .left .table)
-        × (now (stats .exit) ≡ after convergeNumbers (now (stats .entry)) (o .reply))
-        × (now (scans .exit) ≡ after (λ done. done .scans) (now (scans .entry)) (o .reply))) ⌝ }
+    ensures { λ r. ⌜ Makes (convergeOver (now (measures .entry)) (now (psf .entry)) (now (gray .entry))
+        (now (dots .entry)) (now (table .entry)) (now (stats .entry)))
+        convergeBehind (now (stats .entry), now (scans .entry)) r
+        (buffers (now (dots .exit)) (now (table .exit))) (now (stats .exit), now (scans .exit)) ⌝ }
 {
     let number = judge_numbers(measures, stats);
     if number != 0 {
@@ -274,14 +259,10 @@ pub extern "C" fn pm_read_sheet(
     measures: &mut [usize],
     offset: &mut usize,
 ) -> u32
-    ensures { λ r. ⌜ (let o = readOver
-        (now (bytes .entry)) (now (psf .entry)) (now (gray .entry)) (now (dots .entry)) (now (measures .entry)) in
-        (r ≡ status (o .reply))
-        × (now (psf .exit) ≡ o .left .psf)
-        × (now (gray .exit) ≡ o .left .gray)
-        × (now (dots .exit) ≡ o .left .dots)
-        × (now (measures .exit) ≡ after valuesOf (now (measures .entry)) (o .reply))
-        × (now (offset .exit) ≡ offsetAfter (now (offset .entry)) (o .reply))) ⌝ }
+    ensures { λ r. ⌜ Makes (readOver (now (bytes .entry)) (now (psf .entry)) (now (gray .entry)) (now (dots .entry))
+        (now (measures .entry))) readBehind (now (measures .entry), now (offset .entry)) r
+        (sheetBuffers (now (psf .exit)) (now (gray .exit)) (now (dots .exit)))
+        (now (measures .exit), now (offset .exit)) ⌝ }
 {
     if measures.len() != 5 {
         *offset = 0;
@@ -302,12 +283,9 @@ pub extern "C" fn pm_write_sheet(
     length: &mut usize,
     offset: &mut usize,
 ) -> u32
-    ensures { λ r. ⌜ (let o = writeOver (now (measures .entry)) (now (psf .entry)) (now (gray .entry))
-        (now (dots .entry)) (now (out .entry)) in
-        (r ≡ status (o .reply))
-        × (now (out .exit) ≡ o .left)
-        × (now (length .exit) ≡ after (λ n. n) (now (length .entry)) (o .reply))
-        × (now (offset .exit) ≡ offsetAfter (now (offset .entry)) (o .reply))) ⌝ }
+    ensures { λ r. ⌜ Makes (writeOver (now (measures .entry)) (now (psf .entry)) (now (gray .entry)) (now (dots .entry))
+        (now (out .entry))) writeBehind (now (length .entry), now (offset .entry)) r
+        (now (out .exit)) (now (length .exit), now (offset .exit)) ⌝ }
 {
     if measures.len() != 5 {
         *offset = 0;
@@ -329,15 +307,10 @@ pub extern "C" fn pm_check_filed(
     verdict: &mut [i64],
     offset: &mut usize,
 ) -> u32
-    ensures { λ r. ⌜ (let o = checkOver (now (bytes .entry)) (now (psf .entry)) (now (gray .entry))
-        (now (dots .entry)) (now (table .entry)) (now (verdict .entry)) in
-        (r ≡ status (o .reply))
-        × (now (psf .exit) ≡ o .left .psf)
-        × (now (gray .exit) ≡ o .left .gray)
-        × (now (dots .exit) ≡ o .left .dots)
-        × (now (table .exit) ≡ o .left .table)
-        × (now (verdict .exit) ≡ after verdictNumbers (now (verdict .entry)) (o .reply))
-        × (now (offset .exit) ≡ offsetAfter (now (offset .entry)) (o .reply))) ⌝ }
+    ensures { λ r. ⌜ Makes (checkOver (now (bytes .entry)) (now (psf .entry)) (now (gray .entry)) (now (dots .entry))
+        (now (table .entry)) (now (verdict .entry))) checkBehind (now (verdict .entry), now (offset .entry)) r
+        (checkBuffers (now (psf .exit)) (now (gray .exit)) (now (dots .exit)) (now (table .exit)))
+        (now (verdict .exit), now (offset .exit)) ⌝ }
 {
     if verdict.len() != 6 {
         *offset = 0;
@@ -355,11 +328,8 @@ pub extern "C" fn pm_read_pbm(
     width: &mut usize,
     height: &mut usize,
 ) -> u32
-    ensures { λ r. ⌜ (let o = readPbmCall (now (file .entry)) (now (dots .entry)) in
-        (r ≡ status (o .reply))
-        × (now (dots .exit) ≡ o .left)
-        × (now (width .exit) ≡ after (λ z. z .width) (now (width .entry)) (o .reply))
-        × (now (height .exit) ≡ after (λ z. z .height) (now (height .entry)) (o .reply))) ⌝ }
+    ensures { λ r. ⌜ Makes (readPbmCall (now (file .entry)) (now (dots .entry))) pictureBehind
+        (now (width .entry), now (height .entry)) r (now (dots .exit)) (now (width .exit), now (height .exit)) ⌝ }
 {
     let answer = picture::read_pbm(file, dots);
     lay_picture(answer, width, height)
@@ -373,11 +343,8 @@ pub extern "C" fn pm_read_pgm(
     width: &mut usize,
     height: &mut usize,
 ) -> u32
-    ensures { λ r. ⌜ (let o = readPgmCall (now (file .entry)) (now (gray .entry)) in
-        (r ≡ status (o .reply))
-        × (now (gray .exit) ≡ o .left)
-        × (now (width .exit) ≡ after (λ z. z .width) (now (width .entry)) (o .reply))
-        × (now (height .exit) ≡ after (λ z. z .height) (now (height .entry)) (o .reply))) ⌝ }
+    ensures { λ r. ⌜ Makes (readPgmCall (now (file .entry)) (now (gray .entry))) pictureBehind
+        (now (width .entry), now (height .entry)) r (now (gray .exit)) (now (width .exit), now (height .exit)) ⌝ }
 {
     let answer = picture::read_pgm(file, gray);
     lay_picture(answer, width, height)
@@ -392,11 +359,8 @@ pub extern "C" fn pm_write_pbm(
     out: &mut [u8],
     length: &mut usize,
 ) -> u32
-    ensures { λ r. ⌜ (let o = writePbmCall (record { width = width; height = height })
-        (now (dots .entry)) (now (out .entry)) in
-        (r ≡ status (o .reply))
-        × (now (out .exit) ≡ o .left)
-        × (now (length .exit) ≡ after (λ n. n) (now (length .entry)) (o .reply))) ⌝ }
+    ensures { λ r. ⌜ Makes (writePbmCall (sized width height) (now (dots .entry)) (now (out .entry))) valueBehind
+        (now (length .entry)) r (now (out .exit)) (now (length .exit)) ⌝ }
 {
     let size = Size {
         width: width,
@@ -415,11 +379,8 @@ pub extern "C" fn pm_write_pgm(
     out: &mut [u8],
     length: &mut usize,
 ) -> u32
-    ensures { λ r. ⌜ (let o = writePgmCall (record { width = width; height = height })
-        (now (gray .entry)) (now (out .entry)) in
-        (r ≡ status (o .reply))
-        × (now (out .exit) ≡ o .left)
-        × (now (length .exit) ≡ after (λ n. n) (now (length .entry)) (o .reply))) ⌝ }
+    ensures { λ r. ⌜ Makes (writePgmCall (sized width height) (now (gray .entry)) (now (out .entry))) valueBehind
+        (now (length .entry)) r (now (out .exit)) (now (length .exit)) ⌝ }
 {
     let size = Size {
         width: width,
@@ -437,10 +398,8 @@ pub extern "C" fn pm_count_rows(
     packed: &[u8],
     counts: &mut [u32],
 ) -> u32
-    ensures { λ r. ⌜ (let o = countRowsCall (record { width = width; height = height })
-        (now (packed .entry)) (now (counts .entry)) in
-        (r ≡ status (o .reply))
-        × (now (counts .exit) ≡ o .left)) ⌝ }
+    ensures { λ r. ⌜ Fills (countRowsCall (sized width height) (now (packed .entry)) (now (counts .entry))) r
+        (now (counts .exit)) ⌝ }
 {
     let size = Size {
         width: width,

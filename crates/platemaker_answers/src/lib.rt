@@ -4,8 +4,7 @@ ghost use mathlib.Core.Path.{_≡_};
 ghost use lib.ListN.{length};
 ghost use Rattle.model.specs.Calls.{filled, valued};
 ghost use Rattle.model.specs.SheetCalls.{readingOf, writingOf};
-ghost use Rattle.model.specs.Interface.{status, after, measuresSize, offsetAfter};
-ghost use Rattle.model.specs.Sheet.{valuesOf};
+ghost use Rattle.model.specs.Interface.{status, measuresSize, Lays, valueBehind, readBehind, writeBehind};
 use model::Filled;
 use model::Reading;
 use model::SquaredError;
@@ -24,8 +23,7 @@ pub fn lay_filled(answer: Filled) -> u32
 
 // the same of the squared error, with its value
 pub fn lay_squared_error(answer: SquaredError, error: &mut i64) -> u32
-    ensures { λ r. ⌜ (r ≡ status (valued answer))
-        × (now (error .exit) ≡ after (λ e. e) (now (error .entry)) (valued answer)) ⌝ }
+    ensures { λ r. ⌜ Lays (valued answer) valueBehind (now (error .entry)) r (now (error .exit)) ⌝ }
 {
     match answer {
         SquaredError::Value(value) => {
@@ -39,9 +37,8 @@ pub fn lay_squared_error(answer: SquaredError, error: &mut i64) -> u32
 // the same of a sheet that is read, with its measures, or the byte offset of a refusal
 pub fn lay_reading(answer: Reading, measures: &mut [usize], offset: &mut usize) -> u32
     requires { ⌜ length (now measures) ≡ measuresSize ⌝ }
-    ensures { λ r. ⌜ (r ≡ status (readingOf answer))
-        × (now (measures .exit) ≡ after valuesOf (now (measures .entry)) (readingOf answer))
-        × (now (offset .exit) ≡ offsetAfter (now (offset .entry)) (readingOf answer)) ⌝ }
+    ensures { λ r. ⌜ Lays (readingOf answer) readBehind (now (measures .entry), now (offset .entry)) r
+        (now (measures .exit), now (offset .exit)) ⌝ }
 {
     match answer {
         Reading::Done(read) => {
@@ -57,9 +54,8 @@ pub fn lay_reading(answer: Reading, measures: &mut [usize], offset: &mut usize) 
 
 // the same of a sheet that is written, with its length, or the byte offset of a refusal
 pub fn lay_writing(answer: Writing, length: &mut usize, offset: &mut usize) -> u32
-    ensures { λ r. ⌜ (r ≡ status (writingOf answer))
-        × (now (length .exit) ≡ after (λ n. n) (now (length .entry)) (writingOf answer))
-        × (now (offset .exit) ≡ offsetAfter (now (offset .entry)) (writingOf answer)) ⌝ }
+    ensures { λ r. ⌜ Lays (writingOf answer) writeBehind (now (length .entry), now (offset .entry)) r
+        (now (length .exit), now (offset .exit)) ⌝ }
 {
     match answer {
         Writing::Done(written) => {

@@ -6,7 +6,7 @@ ghost use lib.ListN.{length};
 ghost use Rattle.model.specs.Basic.{pick};
 ghost use Rattle.model.specs.Sheet.{InRange};
 ghost use Rattle.model.specs.FiledCalls.{checkedOf};
-ghost use Rattle.model.specs.Interface.{status, after, offsetAfter, verdictSize, restNumber, verdictNumbers};
+ghost use Rattle.model.specs.Interface.{Lays, verdictSize, restNumber, verdictNumbers, checkBehind};
 ghost use Rattle.platemaker_numbers.specs.Storable.{Holds};
 use model::Checked;
 use model::Resting;
@@ -32,8 +32,7 @@ fn rest_number(rest: Resting) -> i64
 
 // a verdict into six numbers
 fn store_verdict(out: &mut [i64], v: Verdict)
-    requires { ⌜ length (now out) ≡ verdictSize ⌝ }
-    requires { ⌜ InRange (v .measures) ⌝ }
+    requires { ⌜ (length (now out) ≡ verdictSize) × InRange (v .measures) ⌝ }
     ensures { λ _. ⌜ now (out .exit) ≡ verdictNumbers v ⌝ }
 {
     let filed = v.filed;
@@ -53,11 +52,9 @@ fn store_verdict(out: &mut [i64], v: Verdict)
 
 // lays the answer of the check out: its status, with the verdict or the byte offset
 pub fn lay_checked(answer: Checked, verdict: &mut [i64], offset: &mut usize) -> u32
-    requires { ⌜ length (now verdict) ≡ verdictSize ⌝ }
-    requires { ⌜ Holds (λ v. InRange (v .measures)) (checkedOf answer) ⌝ }
-    ensures { λ r. ⌜ (r ≡ status (checkedOf answer))
-        × (now (verdict .exit) ≡ after verdictNumbers (now (verdict .entry)) (checkedOf answer))
-        × (now (offset .exit) ≡ offsetAfter (now (offset .entry)) (checkedOf answer)) ⌝ }
+    requires { ⌜ (length (now verdict) ≡ verdictSize) × Holds (λ v. InRange (v .measures)) (checkedOf answer) ⌝ }
+    ensures { λ r. ⌜ Lays (checkedOf answer) checkBehind (now (verdict .entry), now (offset .entry)) r
+        (now (verdict .exit), now (offset .exit)) ⌝ }
 {
     match answer {
         Checked::Done(found) => {

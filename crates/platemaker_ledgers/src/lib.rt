@@ -3,8 +3,7 @@
 ghost use mathlib.Core.Path.{_≡_};
 ghost use lib.ListN.{length};
 ghost use Rattle.model.specs.Calls.{started, attempted, scanned, converged};
-ghost use Rattle.model.specs.Interface.{status, after, statsSize, statsNumbers};
-ghost use Rattle.model.specs.Interface.{changeOf, triedNumbers, scanNumbers, convergeNumbers};
+ghost use Rattle.model.specs.Interface.{statsSize, Lays, statsBehind, triedBehind, scanBehind, convergeBehind};
 ghost use Rattle.platemaker_numbers.specs.Storable.{Storable, Holds, TriedStorable};
 use model::Attempt;
 use model::Converged;
@@ -14,10 +13,8 @@ use platemaker_numbers::store_stats;
 
 // lays the answer of a start out: its status, and the ledger into its slice
 pub fn lay_start(answer: Started, stats: &mut [i64]) -> u32
-    requires { ⌜ length (now stats) ≡ statsSize ⌝ }
-    requires { ⌜ Holds Storable (started answer) ⌝ }
-    ensures { λ r. ⌜ (r ≡ status (started answer))
-        × (now (stats .exit) ≡ after statsNumbers (now (stats .entry)) (started answer)) ⌝ }
+    requires { ⌜ (length (now stats) ≡ statsSize) × Holds Storable (started answer) ⌝ }
+    ensures { λ r. ⌜ Lays (started answer) statsBehind (now (stats .entry)) r (now (stats .exit)) ⌝ }
 {
     match answer {
         Started::Fresh(new) => {
@@ -30,11 +27,9 @@ pub fn lay_start(answer: Started, stats: &mut [i64]) -> u32
 
 // the same of an attempt, with its change
 pub fn lay_attempt(answer: Attempt, stats: &mut [i64], change: &mut i64) -> u32
-    requires { ⌜ length (now stats) ≡ statsSize ⌝ }
-    requires { ⌜ Holds TriedStorable (attempted answer) ⌝ }
-    ensures { λ r. ⌜ (r ≡ status (attempted answer))
-        × (now (stats .exit) ≡ after (triedNumbers (now (stats .entry))) (now (stats .entry)) (attempted answer))
-        × (now (change .exit) ≡ after changeOf (now (change .entry)) (attempted answer)) ⌝ }
+    requires { ⌜ (length (now stats) ≡ statsSize) × Holds TriedStorable (attempted answer) ⌝ }
+    ensures { λ r. ⌜ Lays (attempted answer) triedBehind (now (stats .entry), now (change .entry)) r
+        (now (stats .exit), now (change .exit)) ⌝ }
 {
     match answer {
         Attempt::Accepted(new, delta) => {
@@ -52,11 +47,9 @@ pub fn lay_attempt(answer: Attempt, stats: &mut [i64], change: &mut i64) -> u32
 
 // the same of a scan, with its accepted changes
 pub fn lay_scan(answer: Scanned, stats: &mut [i64], changes: &mut u64) -> u32
-    requires { ⌜ length (now stats) ≡ statsSize ⌝ }
-    requires { ⌜ Holds (λ done. Storable (done .stats)) (scanned answer) ⌝ }
-    ensures { λ r. ⌜ (r ≡ status (scanned answer))
-        × (now (stats .exit) ≡ after scanNumbers (now (stats .entry)) (scanned answer))
-        × (now (changes .exit) ≡ after (λ done. done .changes) (now (changes .entry)) (scanned answer)) ⌝ }
+    requires { ⌜ (length (now stats) ≡ statsSize) × Holds (λ done. Storable (done .stats)) (scanned answer) ⌝ }
+    ensures { λ r. ⌜ Lays (scanned answer) scanBehind (now (stats .entry), now (changes .entry)) r
+        (now (stats .exit), now (changes .exit)) ⌝ }
 {
     match answer {
         Scanned::Done(done) => {
@@ -70,11 +63,9 @@ pub fn lay_scan(answer: Scanned, stats: &mut [i64], changes: &mut u64) -> u32
 
 // the same of a settling, with its scans
 pub fn lay_converged(answer: Converged, stats: &mut [i64], scans: &mut u64) -> u32
-    requires { ⌜ length (now stats) ≡ statsSize ⌝ }
-    requires { ⌜ Holds (λ done. Storable (done .stats)) (converged answer) ⌝ }
-    ensures { λ r. ⌜ (r ≡ status (converged answer))
-        × (now (stats .exit) ≡ after convergeNumbers (now (stats .entry)) (converged answer))
-        × (now (scans .exit) ≡ after (λ done. done .scans) (now (scans .entry)) (converged answer)) ⌝ }
+    requires { ⌜ (length (now stats) ≡ statsSize) × Holds (λ done. Storable (done .stats)) (converged answer) ⌝ }
+    ensures { λ r. ⌜ Lays (converged answer) convergeBehind (now (stats .entry), now (scans .entry)) r
+        (now (stats .exit), now (scans .exit)) ⌝ }
 {
     match answer {
         Converged::Done(done) => {

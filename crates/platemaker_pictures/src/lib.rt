@@ -1,16 +1,14 @@
 // The answers of pictures laid out for the C interface: each function answers the status, 0 or the refusal number, and
 // stores the rest behind pointers.
-ghost use mathlib.Core.Path.{_≡_};
 ghost use Rattle.model.specs.PictureCalls.{pictureOf, writtenOf};
-ghost use Rattle.model.specs.Interface.{status, after};
+ghost use Rattle.model.specs.Interface.{Lays, valueBehind, pictureBehind};
 use model::Picture;
 use model::Written;
 
 // lays the answer of reading a picture out: its status, with width and height
 pub fn lay_picture(answer: Picture, width: &mut usize, height: &mut usize) -> u32
-    ensures { λ r. ⌜ (r ≡ status (pictureOf answer))
-        × (now (width .exit) ≡ after (λ z. z .width) (now (width .entry)) (pictureOf answer))
-        × (now (height .exit) ≡ after (λ z. z .height) (now (height .entry)) (pictureOf answer)) ⌝ }
+    ensures { λ r. ⌜ Lays (pictureOf answer) pictureBehind (now (width .entry), now (height .entry)) r
+        (now (width .exit), now (height .exit)) ⌝ }
 {
     match answer {
         Picture::Done(size) => {
@@ -24,8 +22,7 @@ pub fn lay_picture(answer: Picture, width: &mut usize, height: &mut usize) -> u3
 
 // the same of writing one, with its length
 pub fn lay_written(answer: Written, length: &mut usize) -> u32
-    ensures { λ r. ⌜ (r ≡ status (writtenOf answer))
-        × (now (length .exit) ≡ after (λ n. n) (now (length .entry)) (writtenOf answer)) ⌝ }
+    ensures { λ r. ⌜ Lays (writtenOf answer) valueBehind (now (length .entry)) r (now (length .exit)) ⌝ }
 {
     match answer {
         Written::Done(bytes) => {

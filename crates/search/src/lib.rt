@@ -2,10 +2,13 @@
 // table decides, and a change is made only where it lowers the squared error. A refusal changes nothing.
 ghost use mathlib.Core.Path.{_≡_};
 ghost use Rattle.model.specs.Scan.{resultOf};
-ghost use Rattle.model.specs.Calls.{attempted, scanned, converged};
+ghost use Rattle.model.specs.State.{laterRefusal};
+ghost use Rattle.model.specs.Calls.{Ends, buffers, attempted, scanned, converged};
 ghost use Rattle.model.specs.Calls.{toggleCall, swapCall, toggleScanCall, swapScanCall, convergeCall};
+ghost use Rattle.invariants.specs.Plate.{Ready};
 use filter_correlate::kernel;
 use model::Attempt;
+use model::Cell;
 use model::Converged;
 use model::Measures;
 use model::Progress;
@@ -21,7 +24,39 @@ use search_toggles::toggle_all;
 use search_trial::swap;
 use search_trial::toggle;
 
-// An attempt to toggle the dot of the cell at (row, col).
+// What a call that names no cell begins with: the number of the refusal that is drawn, or 0 and the kernel.
+struct Entered {
+    number: u32,
+    c: [i32; 169],
+}
+
+fn enter(
+    measures: Measures,
+    psf: &[u8],
+    gray: &[u8],
+    dots: &[u8],
+    table: &[i32],
+    stats: Stats,
+) -> Entered
+    ensures { λ r. ⌜ r .number ≡ laterRefusal measures (now (psf .entry)) (now (gray .entry)) (now (dots .entry))
+        (now (table .entry)) stats ⌝ }
+    ensures { λ r. ⌜ (r .number ≡ 0 → Ready measures (now (psf .entry)) (now (gray .entry)) (r .c) (now (dots .entry))
+        (now (table .entry)) stats) ⌝ }
+{
+    let number = judge_scan(measures, psf, gray, dots, table, stats);
+    if number != 0 {
+        return Entered {
+            number: number,
+            c: [0; 169],
+        };
+    }
+    Entered {
+        number: 0,
+        c: kernel(measures.radius, psf),
+    }
+}
+
+// An attempt to toggle the dot of a cell.
 pub fn try_toggle(
     measures: Measures,
     psf: &[u8],
@@ -29,25 +64,20 @@ pub fn try_toggle(
     dots: &mut [u8],
     table: &mut [i32],
     stats: Stats,
-    row: usize,
-    col: usize,
+    at: Cell,
 ) -> Attempt
-    ensures { λ r. ⌜ attempted r ≡ toggleCall measures (now (psf .entry)) (now (gray .entry))
-        (now (dots .entry)) (now (table .entry)) stats row col .reply ⌝ }
-    ensures { λ _. ⌜ now (dots .exit) ≡ toggleCall measures (now (psf .entry)) (now (gray .entry))
-        (now (dots .entry)) (now (table .entry)) stats row col .left .dots ⌝ }
-    ensures { λ _. ⌜ now (table .exit) ≡ toggleCall measures (now (psf .entry)) (now (gray .entry))
-        (now (dots .entry)) (now (table .entry)) stats row col .left .table ⌝ }
+    ensures { λ r. ⌜ Ends (toggleCall measures (now (psf .entry)) (now (gray .entry)) (now (dots .entry))
+        (now (table .entry)) stats (at .row) (at .col)) (attempted r) (buffers (now (dots .exit)) (now (table .exit))) ⌝ }
 {
-    let number = judge_toggle(measures, psf, gray, dots, table, stats, row, col);
+    let number = judge_toggle(measures, psf, gray, dots, table, stats, at);
     if number != 0 {
         return Attempt::Refused(number);
     }
     let c = kernel(measures.radius, psf);
-    toggle(measures, psf, gray, &c, dots, table, stats, row, col)
+    toggle(measures, psf, gray, &c, dots, table, stats, at)
 }
 
-// An attempt to swap the dots of the cells at (row, col) and (row2, col2).
+// An attempt to swap the dots of two cells.
 pub fn try_swap(
     measures: Measures,
     psf: &[u8],
@@ -55,47 +85,19 @@ pub fn try_swap(
     dots: &mut [u8],
     table: &mut [i32],
     stats: Stats,
-    row: usize,
-    col: usize,
-    row2: usize,
-    col2: usize,
+    at: Cell,
+    to: Cell,
 ) -> Attempt
-    ensures { λ r. ⌜ attempted r ≡ swapCall measures (now (psf .entry)) (now (gray .entry))
-        (now (dots .entry)) (now (table .entry)) stats row col row2 col2 .reply ⌝ }
-    ensures { λ _. ⌜ now (dots .exit) ≡ swapCall measures (now (psf .entry)) (now (gray .entry))
-        (now (dots .entry)) (now (table .entry)) stats row col row2 col2 .left .dots ⌝ }
-    ensures { λ _. ⌜ now (table .exit) ≡ swapCall measures (now (psf .entry)) (now (gray .entry))
-        (now (dots .entry)) (now (table .entry)) stats row col row2 col2 .left .table ⌝ }
+    ensures { λ r. ⌜ Ends (swapCall measures (now (psf .entry)) (now (gray .entry)) (now (dots .entry))
+        (now (table .entry)) stats (at .row) (at .col) (to .row) (to .col))
+        (attempted r) (buffers (now (dots .exit)) (now (table .exit))) ⌝ }
 {
-    let number = judge_swap(
-        measures,
-        psf,
-        gray,
-        dots,
-        table,
-        stats,
-        row,
-        col,
-        row2,
-        col2,
-    );
+    let number = judge_swap(measures, psf, gray, dots, table, stats, at, to);
     if number != 0 {
         return Attempt::Refused(number);
     }
     let c = kernel(measures.radius, psf);
-    swap(
-        measures,
-        psf,
-        gray,
-        &c,
-        dots,
-        table,
-        stats,
-        row,
-        col,
-        row2,
-        col2,
-    )
+    swap(measures, psf, gray, &c, dots, table, stats, at, to)
 }
 
 // What a scan answers, having come to that.
@@ -118,18 +120,14 @@ pub fn toggle_scan(
     table: &mut [i32],
     stats: Stats,
 ) -> Scanned
-    ensures { λ r. ⌜ scanned r ≡ toggleScanCall measures (now (psf .entry)) (now (gray .entry))
-        (now (dots .entry)) (now (table .entry)) stats .reply ⌝ }
-    ensures { λ _. ⌜ now (dots .exit) ≡ toggleScanCall measures (now (psf .entry)) (now (gray .entry))
-        (now (dots .entry)) (now (table .entry)) stats .left .dots ⌝ }
-    ensures { λ _. ⌜ now (table .exit) ≡ toggleScanCall measures (now (psf .entry)) (now (gray .entry))
-        (now (dots .entry)) (now (table .entry)) stats .left .table ⌝ }
+    ensures { λ r. ⌜ Ends (toggleScanCall measures (now (psf .entry)) (now (gray .entry)) (now (dots .entry))
+        (now (table .entry)) stats) (scanned r) (buffers (now (dots .exit)) (now (table .exit))) ⌝ }
 {
-    let number = judge_scan(measures, psf, gray, dots, table, stats);
-    if number != 0 {
-        return Scanned::Refused(number);
+    let entered = enter(measures, psf, gray, dots, table, stats);
+    if entered.number != 0 {
+        return Scanned::Refused(entered.number);
     }
-    let c = kernel(measures.radius, psf);
+    let c = entered.c;
     let progress = toggle_all(measures, psf, gray, &c, dots, table, stats);
     Scanned::Done(result_of(progress))
 }
@@ -144,18 +142,14 @@ pub fn swap_scan(
     table: &mut [i32],
     stats: Stats,
 ) -> Scanned
-    ensures { λ r. ⌜ scanned r ≡ swapScanCall measures (now (psf .entry)) (now (gray .entry))
-        (now (dots .entry)) (now (table .entry)) stats .reply ⌝ }
-    ensures { λ _. ⌜ now (dots .exit) ≡ swapScanCall measures (now (psf .entry)) (now (gray .entry))
-        (now (dots .entry)) (now (table .entry)) stats .left .dots ⌝ }
-    ensures { λ _. ⌜ now (table .exit) ≡ swapScanCall measures (now (psf .entry)) (now (gray .entry))
-        (now (dots .entry)) (now (table .entry)) stats .left .table ⌝ }
+    ensures { λ r. ⌜ Ends (swapScanCall measures (now (psf .entry)) (now (gray .entry)) (now (dots .entry))
+        (now (table .entry)) stats) (scanned r) (buffers (now (dots .exit)) (now (table .exit))) ⌝ }
 {
-    let number = judge_scan(measures, psf, gray, dots, table, stats);
-    if number != 0 {
-        return Scanned::Refused(number);
+    let entered = enter(measures, psf, gray, dots, table, stats);
+    if entered.number != 0 {
+        return Scanned::Refused(entered.number);
     }
-    let c = kernel(measures.radius, psf);
+    let c = entered.c;
     let progress = swap_all(measures, psf, gray, &c, dots, table, stats);
     Scanned::Done(result_of(progress))
 }
@@ -170,17 +164,13 @@ pub fn converge(
     table: &mut [i32],
     stats: Stats,
 ) -> Converged
-    ensures { λ r. ⌜ converged r ≡ convergeCall measures (now (psf .entry)) (now (gray .entry))
-        (now (dots .entry)) (now (table .entry)) stats .reply ⌝ }
-    ensures { λ _. ⌜ now (dots .exit) ≡ convergeCall measures (now (psf .entry)) (now (gray .entry))
-        (now (dots .entry)) (now (table .entry)) stats .left .dots ⌝ }
-    ensures { λ _. ⌜ now (table .exit) ≡ convergeCall measures (now (psf .entry)) (now (gray .entry))
-        (now (dots .entry)) (now (table .entry)) stats .left .table ⌝ }
+    ensures { λ r. ⌜ Ends (convergeCall measures (now (psf .entry)) (now (gray .entry)) (now (dots .entry))
+        (now (table .entry)) stats) (converged r) (buffers (now (dots .exit)) (now (table .exit))) ⌝ }
 {
-    let number = judge_scan(measures, psf, gray, dots, table, stats);
-    if number != 0 {
-        return Converged::Refused(number);
+    let entered = enter(measures, psf, gray, dots, table, stats);
+    if entered.number != 0 {
+        return Converged::Refused(entered.number);
     }
-    let c = kernel(measures.radius, psf);
+    let c = entered.c;
     Converged::Done(come_to_rest(measures, psf, gray, &c, dots, table, stats))
 }

@@ -1,15 +1,17 @@
 // One change of a halftone: what a toggle and a swap would add to the squared error, decided by the table in a few
 // operations.
-ghost use mathlib.Core.Bool.{_&&_, not};
 ghost use mathlib.Core.Path.{_≡_};
 ghost use Prim.Native.Nat.{_+_, _*_, _<_, _≤_};
-ghost use lib.Dec.{eqb};
-ghost use lib.IntN.{pos, natAbs, _+ℤ_, _-ℤ_, _*ℤ_};
+ghost use lib.IntN.{pos, natAbs, _-ℤ_, _*ℤ_};
 ghost use lib.ListN.{length, getD};
 ghost use lib.Signed.{ltZ};
 ghost use Rattle.model.specs.Basic.{squareAt};
 ghost use Rattle.model.specs.Change.{signOf, sign, toggleSum, swapSum};
-ghost use Rattle.model.specs.Window.{Small, mostFiltered};
+ghost use Rattle.invariants.specs.Plate.{mostChange};
+ghost use Rattle.invariants.specs.Trials.{lowersBy};
+ghost use Rattle.invariants.specs.Window.{Small, HoldsSquare, mostKernel, mostWorth};
+use model::Cell;
+ghost use Rattle.model.specs.Error.{mostFiltered};
 
 // a value times s of a cell whose dot byte is `dot`
 pub fn signed(dot: u8, value: i32) -> i32
@@ -23,30 +25,31 @@ pub fn signed(dot: u8, value: i32) -> i32
 // what a toggle of the cell m adds: 255 × (2 × s(m) × T(m) + 255 × P)
 pub fn toggle_change(peak: i32, dots: &[u8], table: &[i32], m: usize) -> i64
     requires { ⌜ (m < length (now dots)) × (m < length (now table)) ⌝ }
-    requires { ⌜ (natAbs peak ≤ 1048576) × Small mostFiltered (now table) ⌝ }
+    requires { ⌜ (natAbs peak ≤ mostKernel) × Small mostFiltered (now table) ⌝ }
     ensures { λ r. ⌜ r ≡ toggleSum 255 peak (sign (now (dots .entry)) m) (getD (now (table .entry)) m (pos 0)) ⌝ }
-    ensures { λ r. ⌜ natAbs r ≤ 204550963200 ⌝ }
+    ensures { λ r. ⌜ natAbs r ≤ mostChange ⌝ }
 {
     255 * ((2 * signed(dots[m], table[m]) + 255 * peak) as i64)
 }
 
-// c at the offset from (row2, col2) to (row, col), 0 past 2r
-pub fn between(radius: usize, c: &[i32], row: usize, col: usize, row2: usize, col2: usize) -> i32
-    requires { ⌜ (radius ≤ 3) × ((4 * radius + 1) * (4 * radius + 1) ≤ length (now c)) ⌝ }
-    requires { ⌜ (row < 256) × (col < 256) × (row2 < 256) × (col2 < 256) ⌝ }
-    ensures { λ r. ⌜ r ≡ squareAt (pos 0) (2 * radius) (now (c .entry)) (pos row -ℤ pos row2) (pos col -ℤ pos col2) ⌝ }
+// c at the offset from one cell back to another, 0 past 2r
+pub fn between(radius: usize, c: &[i32], at: Cell, to: Cell) -> i32
+    requires { ⌜ HoldsSquare radius (now c) ⌝ }
+    requires { ⌜ (at .row < 256) × (at .col < 256) × (to .row < 256) × (to .col < 256) ⌝ }
+    ensures { λ r. ⌜ r ≡ squareAt (pos 0) (2 * radius) (now (c .entry))
+        (pos (at .row) -ℤ pos (to .row)) (pos (at .col) -ℤ pos (to .col)) ⌝ }
 {
     let side = 4 * radius + 1;
-    let bottom = row + 2 * radius;
-    let right = col + 2 * radius;
-    if bottom < row2 {
+    let bottom = at.row + 2 * radius;
+    let right = at.col + 2 * radius;
+    if bottom < to.row {
         return 0;
     }
-    if right < col2 {
+    if right < to.col {
         return 0;
     }
-    let y = bottom - row2;
-    let x = right - col2;
+    let y = bottom - to.row;
+    let x = right - to.col;
     if side <= y {
         return 0;
     }
@@ -58,10 +61,11 @@ pub fn between(radius: usize, c: &[i32], row: usize, col: usize, row2: usize, co
 
 // P: c at the offset (0, 0)
 pub fn peak(radius: usize, c: &[i32]) -> i32
-    requires { ⌜ (radius ≤ 3) × ((4 * radius + 1) * (4 * radius + 1) ≤ length (now c)) ⌝ }
+    requires { ⌜ HoldsSquare radius (now c) ⌝ }
     ensures { λ r. ⌜ r ≡ squareAt (pos 0) (2 * radius) (now (c .entry)) (pos 0) (pos 0) ⌝ }
 {
-    between(radius, c, 0, 0, 0, 0)
+    let corner = Cell { row: 0, col: 0 };
+    between(radius, c, corner, corner)
 }
 
 // s(m) × (T(m) - T(n))
@@ -78,10 +82,10 @@ pub fn difference(dots: &[u8], table: &[i32], m: usize, n: usize) -> i32
 // what a swap of the cells m and n adds: 510 × (s(m) × (T(m) - T(n)) + 255 × (P - c(m - n)))
 pub fn swap_change(peak: i32, apart: i32, dots: &[u8], table: &[i32], m: usize, n: usize) -> i64
     requires { ⌜ (m < length (now dots)) × (m < length (now table)) × (n < length (now table)) ⌝ }
-    requires { ⌜ (natAbs peak ≤ 1048576) × (natAbs apart ≤ 1048576) × Small mostFiltered (now table) ⌝ }
+    requires { ⌜ (natAbs peak ≤ mostKernel) × (natAbs apart ≤ mostKernel) × Small mostFiltered (now table) ⌝ }
     ensures { λ r. ⌜ r ≡ swapSum 255 peak apart (sign (now (dots .entry)) m)
         (getD (now (table .entry)) m (pos 0)) (getD (now (table .entry)) n (pos 0)) ⌝ }
-    ensures { λ r. ⌜ natAbs r ≤ 545469235200 ⌝ }
+    ensures { λ r. ⌜ natAbs r ≤ mostChange ⌝ }
 {
     510 * ((difference(dots, table, m, n) + 255 * (peak - apart)) as i64)
 }
@@ -90,10 +94,8 @@ pub fn swap_change(peak: i32, apart: i32, dots: &[u8], table: &[i32], m: usize, 
 // tested first: it seldom is below 0, while dots are as often unlike as alike.
 pub fn lower_swap(dots: &[u8], table: &[i32], m: usize, n: usize, worth: i32) -> bool
     requires { ⌜ (m < length (now dots)) × (n < length (now dots)) × (length (now table) ≡ length (now dots)) ⌝ }
-    requires { ⌜ Small mostFiltered (now table) × (natAbs worth ≤ 534773760) ⌝ }
-    ensures { λ r. ⌜ r ≡ (not (eqb (getD (now (dots .entry)) m 0) (getD (now (dots .entry)) n 0))
-        && ltZ (sign (now (dots .entry)) m
-        *ℤ (getD (now (table .entry)) m (pos 0) -ℤ getD (now (table .entry)) n (pos 0)) +ℤ worth) (pos 0)) ⌝ }
+    requires { ⌜ Small mostFiltered (now table) × (natAbs worth ≤ mostWorth) ⌝ }
+    ensures { λ r. ⌜ r ≡ lowersBy (now (dots .entry)) (now (table .entry)) m n worth ⌝ }
 {
     if difference(dots, table, m, n) + worth < 0 {
         return dots[m] != dots[n];

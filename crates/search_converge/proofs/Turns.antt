@@ -18,6 +18,8 @@ use Rattle.model.specs.Ledger.{changes}
 use Rattle.model.specs.State.{LaterFits}
 use Rattle.model.specs.Reference.{Reference, reference, statsOf}
 use Rattle.model.specs.Scan.{Rule, toggles, swaps, Sweep, sweep, progressOf, convergeFrom, converge}
+use Rattle.invariants.specs.Plate.{Leaves}
+use Rattle.invariants.specs.Trials.{performed}
 use Rattle.model.proofs.Attempts.{entry-stats, entry-sound}
 use Rattle.model.proofs.Scan.{Lawful, sweep-later, sweep-counts, sweep-still, sweep-lowers}
 use Rattle.model.proofs.Converge.{converge-again, converge-anew, converge-end}
@@ -35,16 +37,15 @@ module _ (m : Measures) (psf gray : List ℕ) where
   pub made-by : (rule : Rule) → Lawful t rule → (dots : List ℕ) (table : List ℤ) (s : Stats)
       → LaterFits m psf gray dots table s
       → {dots′ : List ℕ} {table′ : List ℤ} {r : Progress}
-      → r ≡ progressOf t (sweep t rule (reference dots s))
-      → dots′ ≡ sweep t rule (reference dots s) .after .dots
-      → table′ ≡ filteredErrors t (sweep t rule (reference dots s) .after .dots)
+      → Leaves t (performed t (sweep t rule (reference dots s))) r dots′ table′
       → Made rule (reference dots s) dots′ table′ r
   unfolding progressOf statsOf
-  made-by rule lawful dots table s f {dots′} {table′} {r} er ed et =
-      subst (λ x. Made rule q dots′ table′ x) (sym er)
-      (subst (λ x. Made rule q dots′ x (progressOf t (sweep t rule q))) (sym et)
+  made-by rule lawful dots table s f {dots′} {table′} {r} left =
+      subst (λ x. Made rule q dots′ table′ x) (sym (left .answer-is))
+      (subst (λ x. Made rule q dots′ x (progressOf t (sweep t rule q))) (sym (left .table-is))
       (subst
-      (λ x. Made rule q x (filteredErrors t (sweep t rule q .after .dots)) (progressOf t (sweep t rule q))) (sym ed)
+      (λ x. Made rule q x (filteredErrors t (sweep t rule q .after .dots)) (progressOf t (sweep t rule q)))
+      (sym (left .dots-are))
       (record {
         fits =
             sweep-later m psf gray rule lawful q (entry-sound m psf gray dots table s f) (cells t) (le-refl (cells t));
@@ -158,19 +159,17 @@ module _ (m : Measures) (psf gray : List ℕ) where
 
         -- it accepts nothing either: the settling is at its end
         pub turning-end : b .changes ≡ 0
-            → (record { stats = b .stats; scans = n + 1 + 1 } ≡ converge t (m .reach) p .answer)
-            × ((dots2 ≡ converge t (m .reach) p .after .dots)
-            × (table2 ≡ filteredErrors t (converge t (m .reach) p .after .dots)))
+            → Leaves t (converge t (m .reach) p) (record { stats = b .stats; scans = n + 1 + 1 }) dots2 table2
         unfolding converge
-        turning-end e = (
-          ap₂ (λ x k. record { stats = x; scans = k })
-              (entry-stats m psf gray dots2 table2 (b .stats) (swept .fits)) two
-              ∙ ap (λ x. record { stats = statsOf t (x .after); scans = x .scans }) end,
-          (
-            ap (λ x. x .after .dots) end,
-            swept .fits .state .table-is ∙ ap (λ x. filteredErrors t (x .after .dots)) end,
-          ),
-        )
+        turning-end e =
+            record {
+              answer-is =
+                  ap₂ (λ x k. record { stats = x; scans = k })
+                  (entry-stats m psf gray dots2 table2 (b .stats) (swept .fits)) two
+                  ∙ ap (λ x. record { stats = statsOf t (x .after); scans = x .scans }) end;
+              dots-are = ap (λ x. x .after .dots) end;
+              table-is = swept .fits .state .table-is ∙ ap (λ x. filteredErrors t (x .after .dots)) end;
+            }
           where
             end : record { after = reference dots2 (b .stats); scans = n + 2 } ≡ convergeFrom t (m .reach) p 0
             end =

@@ -1,10 +1,8 @@
 // Settling of a judged plate whose kernel is c, by its two scans.
-ghost use mathlib.Core.Path.{_≡_};
-ghost use Rattle.model.specs.Error.{targetFor, filteredErrors};
-ghost use Rattle.model.specs.Window.{HoldsKernel};
-ghost use Rattle.model.specs.State.{LaterFits};
+ghost use Rattle.model.specs.Error.{targetFor};
 ghost use Rattle.model.specs.Reference.{reference};
-ghost use Rattle.model.specs.Calls.{atRest};
+ghost use Rattle.model.specs.Scan.{converge};
+ghost use Rattle.invariants.specs.Plate.{Ready, Leaves};
 use model::ConvergeResult;
 use model::Measures;
 use model::Stats;
@@ -21,15 +19,10 @@ pub fn come_to_rest(
     table: &mut [i32],
     stats: Stats,
 ) -> ConvergeResult
-    requires { ⌜ LaterFits measures (now psf) (now gray) (now dots) (now table) stats ⌝ }
-    requires { ⌜ HoldsKernel (measures .radius) (now psf) (now c) ⌝ }
-    ensures { λ r. ⌜ r ≡ atRest measures (now (psf .entry)) (now (gray .entry))
-        (reference (now (dots .entry)) stats) .answer ⌝ }
-    ensures { λ _. ⌜ now (dots .exit) ≡ atRest measures (now (psf .entry)) (now (gray .entry))
-        (reference (now (dots .entry)) stats) .after .dots ⌝ }
-    ensures { λ _. ⌜ now (table .exit) ≡ filteredErrors (targetFor measures (now (psf .entry)) (now (gray .entry)))
-        (atRest measures (now (psf .entry)) (now (gray .entry))
-        (reference (now (dots .entry)) stats) .after .dots) ⌝ }
+    requires { ⌜ Ready measures (now psf) (now gray) (now c) (now dots) (now table) stats ⌝ }
+    ensures { λ r. ⌜ (let t = targetFor measures (now (psf .entry)) (now (gray .entry)) in
+        Leaves t (converge t (measures .reach) (reference (now (dots .entry)) stats))
+        r (now (dots .exit)) (now (table .exit))) ⌝ }
 {
     let mut now = stats;
     let mut scans: u64 = 0;

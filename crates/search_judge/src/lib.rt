@@ -9,8 +9,10 @@ use judge_cells::judge_pair;
 use judge_input::judge_later;
 use judge_parts::first;
 use judge_state::judge_state;
+use model::Cell;
 use model::Measures;
 use model::Stats;
+use slices::index;
 
 // the whole list of a toggle
 pub fn judge_toggle(
@@ -20,30 +22,20 @@ pub fn judge_toggle(
     dots: &[u8],
     table: &[i32],
     stats: Stats,
-    row: usize,
-    col: usize,
+    at: Cell,
 ) -> u32
     ensures { λ r. ⌜ r ≡ toggleRefusal measures (now (psf .entry)) (now (gray .entry))
-        (now (dots .entry)) (now (table .entry)) stats row col ⌝ }
+        (now (dots .entry)) (now (table .entry)) stats (at .row) (at .col) ⌝ }
 {
     let input = judge_later(measures, psf, gray, dots, table.len());
     if input != 0 {
         return input;
     }
-    let cell = judge_cell(measures.width, measures.height, row, col);
+    let cell = judge_cell(measures.width, measures.height, at);
     if cell != 0 {
         return cell;
     }
-    judge_state(
-        measures.width,
-        measures.height,
-        measures.radius,
-        psf,
-        gray,
-        dots,
-        table,
-        stats,
-    )
+    judge_state(measures, psf, gray, dots, table, stats)
 }
 
 // the whole list of a swap
@@ -54,36 +46,25 @@ pub fn judge_swap(
     dots: &[u8],
     table: &[i32],
     stats: Stats,
-    row: usize,
-    col: usize,
-    row2: usize,
-    col2: usize,
+    at: Cell,
+    to: Cell,
 ) -> u32
     ensures { λ r. ⌜ r ≡ swapRefusal measures (now (psf .entry)) (now (gray .entry))
-        (now (dots .entry)) (now (table .entry)) stats row col row2 col2 ⌝ }
+        (now (dots .entry)) (now (table .entry)) stats (at .row) (at .col) (to .row) (to .col) ⌝ }
 {
     let input = judge_later(measures, psf, gray, dots, table.len());
     if input != 0 {
         return input;
     }
-    let cells = judge_cells(measures.width, measures.height, row, col, row2, col2);
-    let pair = judge_pair(measures.reach, row, col, row2, col2);
+    let cells = judge_cells(measures.width, measures.height, at, to);
+    let pair = judge_pair(measures.reach, at, to);
     let named = first(cells, pair);
     if named != 0 {
         return named;
     }
-    let state = judge_state(
-        measures.width,
-        measures.height,
-        measures.radius,
-        psf,
-        gray,
-        dots,
-        table,
-        stats,
-    );
-    let m = row * measures.width + col;
-    let n = row2 * measures.width + col2;
+    let state = judge_state(measures, psf, gray, dots, table, stats);
+    let m = index(measures.width, at);
+    let n = index(measures.width, to);
     let like = judge_like(dots, m, n);
     first(state, like)
 }
@@ -104,14 +85,5 @@ pub fn judge_scan(
     if handed != 0 {
         return handed;
     }
-    judge_state(
-        measures.width,
-        measures.height,
-        measures.radius,
-        psf,
-        gray,
-        dots,
-        table,
-        stats,
-    )
+    judge_state(measures, psf, gray, dots, table, stats)
 }

@@ -1,47 +1,46 @@
-// Making a change of a halftone: a dot is turned and the table follows, and the ledger counts it.
+// Making a change of a judged plate whose kernel is c: a byte is stored and the table follows, and the ledger counts it.
 ghost use mathlib.Core.Path.{_≡_};
-ghost use Prim.Native.Nat.{_+_, _*_, _^_, _<_, _≤_};
+ghost use Prim.Native.Nat.{_≤_};
 ghost use lib.Dec.{eqb};
-ghost use lib.IntN.{pos, natAbs, _+ℤ_, _*ℤ_};
-ghost use lib.ListN.{length};
-ghost use Rattle.model.specs.Basic.{pick, AtMost};
-ghost use Rattle.model.specs.Change.{sign, flipped};
-ghost use Rattle.model.specs.Error.{cellAt, mostSquared};
+ghost use lib.IntN.{_+ℤ_};
+ghost use lib.ListN.{set};
+ghost use Rattle.model.specs.Basic.{pick};
+ghost use Rattle.model.specs.Error.{targetFor, filteredErrors};
 ghost use Rattle.model.specs.Ledger.{onCount, offCount, swapCount, counted};
-ghost use Rattle.model.specs.Window.{addWindow, Small, mostFiltered};
+ghost use Rattle.invariants.specs.Plate.{Judged, OnPlate, cellOf, Countable};
 use filter_window::add_window;
+use model::Cell;
+use model::Measures;
 use model::Stats;
-use search_change::signed;
+use slices::index;
 
-// The dot of a cell is turned, and the table follows: each T(q) gains 255 × s(m) × c(q - m).
-pub fn flip(
-    width: usize,
-    height: usize,
-    radius: usize,
+// A byte is stored at a cell, and the table follows: each T(q) gains 255 × what the byte adds × c(q - m). A toggle
+// stores the other byte, a swap each cell's byte at the other.
+pub fn store(
+    measures: Measures,
+    psf: &[u8],
+    gray: &[u8],
     c: &[i32],
     dots: &mut [u8],
     table: &mut [i32],
-    row: usize,
-    col: usize,
+    at: Cell,
+    byte: u8,
 )
-    requires { ⌜ (row < height) × (col < width) × (width ≤ 256) × (height ≤ 256) × (radius ≤ 3) ⌝ }
-    requires { ⌜ ((4 * radius + 1) * (4 * radius + 1) ≤ length (now c)) × Small 1048576 (now c) ⌝ }
-    requires { ⌜ (length (now dots) ≡ height * width) × (length (now table) ≡ height * width) ⌝ }
-    requires { ⌜ AtMost 1 (now dots) × Small mostFiltered (now table) ⌝ }
-    ensures { λ _. ⌜ now (dots .exit) ≡ flipped (now (dots .entry)) (cellAt width row col) ⌝ }
-    ensures { λ _. ⌜ now (table .exit) ≡ addWindow width (2 * radius) (now (c .entry))
-        (pos 255 *ℤ sign (now (dots .entry)) (cellAt width row col)) row col (now (table .entry)) ⌝ }
+    requires { ⌜ Judged measures (now psf) (now gray) (now c) (now dots) (now table) × OnPlate measures at × (byte ≤ 1) ⌝ }
+    ensures { λ _. ⌜ now (dots .exit) ≡ set (now (dots .entry)) (cellOf (measures .width) at) byte ⌝ }
+    ensures { λ _. ⌜ now (table .exit) ≡ filteredErrors
+        (targetFor measures (now (psf .entry)) (now (gray .entry))) (now (dots .exit)) ⌝ }
 {
-    let m = row * width + col;
-    let dot = dots[m];
-    dots[m] = 1 - dot;
-    let amount = signed(dot, 255);
-    add_window(table, width, height, row, col, 2 * radius, c, amount);
+    let m = index(measures.width, at);
+    let amount = 255 * (byte as i32 - dots[m] as i32);
+    dots[m] = byte;
+    let reach = 2 * measures.radius;
+    add_window(table, measures.width, measures.height, at, reach, c, amount);
 }
 
 // the ledger with a change: E now gains it
 fn move_error(stats: Stats, change: i64) -> Stats
-    requires { ⌜ (natAbs (stats .error) ≤ mostSquared) × (natAbs change ≤ 2 ^ 50) ⌝ }
+    requires { ⌜ Countable stats change ⌝ }
     ensures { λ r. ⌜ (r .error ≡ stats .error +ℤ change) × (r .figures ≡ stats .figures) ⌝ }
 {
     let error = stats.error + change;
@@ -52,8 +51,7 @@ fn move_error(stats: Stats, change: i64) -> Stats
 
 // the ledger after an accepted toggle of a cell whose dot byte was `dot`: a count rises
 pub fn count_toggle(stats: Stats, change: i64, dot: u8) -> Stats
-    requires { ⌜ (natAbs (stats .error) ≤ mostSquared) × (natAbs change ≤ 2 ^ 50) ⌝ }
-    requires { ⌜ (stats .figures .on ≤ 2 ^ 44) × (stats .figures .off ≤ 2 ^ 44) ⌝ }
+    requires { ⌜ Countable stats change ⌝ }
     ensures { λ r. ⌜ r ≡ counted stats change (pick (eqb dot 0) onCount offCount) ⌝ }
 {
     let mut counted = move_error(stats, change);
@@ -69,8 +67,7 @@ pub fn count_toggle(stats: Stats, change: i64, dot: u8) -> Stats
 
 // the ledger after an accepted swap
 pub fn count_swap(stats: Stats, change: i64) -> Stats
-    requires { ⌜ (natAbs (stats .error) ≤ mostSquared) × (natAbs change ≤ 2 ^ 50) ⌝ }
-    requires { ⌜ stats .figures .swaps ≤ 2 ^ 44 ⌝ }
+    requires { ⌜ Countable stats change ⌝ }
     ensures { λ r. ⌜ r ≡ counted stats change swapCount ⌝ }
 {
     let mut counted = move_error(stats, change);

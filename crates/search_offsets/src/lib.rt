@@ -2,9 +2,9 @@
 // them that are within a given reach.
 ghost use mathlib.Core.Path.{_≡_};
 ghost use Prim.Native.Nat.{_+_, _*_, _≤_, _<_};
-ghost use lib.ListN.{length};
-ghost use Rattle.model.specs.Partners.{HoldsOffsets};
-ghost use Rattle.search_offsets.specs.Codes.{near, within, Keeps};
+ghost use lib.ListN.{length, take};
+ghost use Rattle.invariants.specs.Partners.{HoldsOffsets};
+ghost use Rattle.search_offsets.specs.Codes.{near, within, kept};
 
 // the 168 offsets in document 01's order, a line for each sum of squares: the two digits of a byte are the row and the
 // column, each with 6 added
@@ -54,11 +54,10 @@ fn is_within(reach: usize, code: u8) -> bool
     is_near(reach, code / 16) && is_near(reach, code % 16)
 }
 
-// the rows and the columns of those codes that are within reach, in their order, and how many they are
-fn keep(codes: &[u8], reach: usize, downs: &mut [u8], rights: &mut [u8]) -> usize
-    requires { ⌜ reach ≤ 6 ⌝ }
-    requires { ⌜ (length (now codes) ≤ length (now downs)) × (length (now codes) ≤ length (now rights)) ⌝ }
-    ensures { λ r. ⌜ Keeps reach (now (codes .entry)) (now (downs .exit)) (now (rights .exit)) r ⌝ }
+// the codes within reach, in their order, at the front of `out`; and how many they are
+fn keep(codes: &[u8], reach: usize, out: &mut [u8]) -> usize
+    requires { ⌜ (reach ≤ 6) × (length (now codes) ≤ length (now out)) ⌝ }
+    ensures { λ r. ⌜ (r ≤ length (now (out .exit))) × (take r (now (out .exit)) ≡ kept reach (now (codes .entry))) ⌝ }
 {
     let mut count: usize = 0;
     let mut k: usize = 0;
@@ -66,19 +65,18 @@ fn keep(codes: &[u8], reach: usize, downs: &mut [u8], rights: &mut [u8]) -> usiz
         let code = codes[k];
         k += 1;
         if is_within(reach, code) {
-            downs[count] = code / 16;
-            rights[count] = code % 16;
+            out[count] = code;
             count += 1;
         }
     }
     count
 }
 
-// the offsets within reach, farthest first: how many, and their coordinates, each with 6 added
-pub fn within_reach(reach: usize, downs: &mut [u8], rights: &mut [u8]) -> usize
-    requires { ⌜ reach ≤ 6 ⌝ }
-    requires { ⌜ (168 ≤ length (now downs)) × (168 ≤ length (now rights)) ⌝ }
-    ensures { λ r. ⌜ HoldsOffsets reach (now (downs .exit)) (now (rights .exit)) r ⌝ }
+// the offsets within reach, farthest first, at the front of `out`; and how many they are
+pub fn within_reach(reach: usize, out: &mut [u8]) -> usize
+    requires { ⌜ (reach ≤ 6) × (168 ≤ length (now out)) ⌝ }
+    ensures { λ r. ⌜ HoldsOffsets reach (take r (now (out .exit))) ⌝ }
+    ensures { λ r. ⌜ (r ≤ length (now (out .exit))) × (r ≡ length (take r (now (out .exit)))) ⌝ }
 {
-    keep(&OFFSETS, reach, downs, rights)
+    keep(&OFFSETS, reach, out)
 }

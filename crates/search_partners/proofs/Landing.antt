@@ -2,7 +2,7 @@
 --   lands-is, partner-is                      whether it lands, and on which cell
 --   off-top, off-bottom, off-left, off-right  it does not: the number of cells is told
 --   on                                        it does: the cell is told
-use mathlib.Core.Bool.{Bool, true, false, _&&_}
+use mathlib.Core.Bool.{Bool, true, false, _&&_, and-false}
 use mathlib.Core.Path.{_≡_, refl, sym, _∙_, ap, ap₂}
 use mathlib.Core.List.{[], _∷_}
 use Prim.Native.Nat.{ℕ, suc, _+_, _*_, _-_, _≤_, _<_}
@@ -14,7 +14,8 @@ use Rattle.algebra.proofs.Order.{show≡}
 use Rattle.algebra.proofs.Grid.{cell-row, cell-column}
 use Rattle.model.specs.Basic.{pick}
 use Rattle.model.specs.Error.{cellAt}
-use Rattle.model.specs.Partners.{biased, inside, lands, partner}
+use Rattle.model.specs.Partners.{inside, lands, partner}
+use Rattle.invariants.specs.Partners.{biased}
 
 -- along one coordinate: d - 6 on from place a
 abbrev place : (a d : ℕ) → ℤ
@@ -42,14 +43,6 @@ module _ (limit a d : ℕ) where
   within h k =
       ap (inside limit) (place-is h)
       ∙ rw (le-leb 0 (a + d - 6) (omega arith), lt-ltb (a + d - 6) limit (omega arith)) refl
-
--- a false conjunct
-first-false : {a : Bool} (b : Bool) → a ≡ false → a && b ≡ false
-first-false b e = ap (λ x. x && b) e
-
-second-false : (a : Bool) {b : Bool} → b ≡ false → a && b ≡ false
-second-false true e = e
-second-false false e = refl
 
 -- from the cell at (row, col)
 module _ (w h row col : ℕ) (across : col < w) (down right : ℕ) where
@@ -79,16 +72,16 @@ module _ (w h row col : ℕ) (across : col < w) (down right : ℕ) where
   off e = rw (lands-is ∙ e) refl
 
   pub off-top : row + down < 6 → Leads (h * w)
-  off-top p = off (first-false (inside w (place col right)) (before h row down p))
+  off-top p = off (rw (before h row down p) refl)
 
   pub off-bottom : h + 6 ≤ row + down → Leads (h * w)
-  off-bottom p = off (first-false (inside w (place col right)) (beyond h row down p))
+  off-bottom p = off (rw (beyond h row down p) refl)
 
   pub off-left : col + right < 6 → Leads (h * w)
-  off-left p = off (second-false (inside h (place row down)) (before w col right p))
+  off-left p = off (rw (before w col right p) (and-false (inside h (place row down))))
 
   pub off-right : w + 6 ≤ col + right → Leads (h * w)
-  off-right p = off (second-false (inside h (place row down)) (beyond w col right p))
+  off-right p = off (rw (beyond w col right p) (and-false (inside h (place row down))))
 
   pub on : 6 ≤ row + down → row + down < h + 6 → 6 ≤ col + right → col + right < w + 6
       → Leads (cellAt w (row + down - 6) (col + right - 6))

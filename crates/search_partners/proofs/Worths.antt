@@ -1,42 +1,39 @@
--- What the offsets are worth: one more entry (`worths-next`), and that each is small (`worth-small`).
-use mathlib.Core.Path.{_≡_, _∙_}
+-- What an offset is worth, 255 × (P - c), as the code works it out of locals that hold the peak and c there.
+--   gap-fits, worth-fits  no step of it wraps
+--   worth-is              it is that
 use mathlib.Core.List.{List}
-use Prim.Native.Nat.{ℕ, _+_, _*_, _≤_, _<_}
-use native.Mathlib.Omega.{arith}
-use native.Mathlib.Decide.{ℕ-discrete}
-use lib.Dec.{lit≤}
-use lib.IntN.{ℤ, pos, negℤ, natAbs, _-ℤ_}
-use lib.ListN.{length, getD, set, length-set}
-use lib.Seq.{getD-set-same, getD-set-other}
-use Rattle.algebra.proofs.Order.{natAbs-+ℤ, natAbs-negℤ, natAbs-mul-le}
+use mathlib.Core.Path.{_≡_, sym, subst}
+use Prim.Native.Nat.{ℕ, _*_, _≤_}
+use lib.Dec.{lit<}
+use lib.IntN.{ℤ, pos, natAbs, _-ℤ_, _*ℤ_}
+use mir.Syntax.{w32}
+use mir.Val.{toZ, ofZ, SFits}
+use Rattle.algebra.proofs.Machine.{Holds, named, literal, of-small, sub-fits, sub-holds, mul-fits, mul-holds}
 use Rattle.model.specs.Basic.{squareAt}
-use Rattle.model.specs.Partners.{worthAt, HoldsWorths}
-use Rattle.model.specs.Window.{Small}
-use Rattle.model.proofs.Window.{square-small}
+use Rattle.invariants.specs.Window.{Small, mostKernel}
+use Rattle.invariants.proofs.Window.{square-small}
 
--- one more entry
-pub worths-next : (r : ℕ) (c : List ℤ) (downs rights : List ℕ) (k : ℕ) (worths : List ℤ) {z : ℤ}
-    → HoldsWorths r c downs rights k worths → k < length worths → z ≡ worthAt r c (getD downs k 0) (getD rights k 0)
-    → HoldsWorths r c downs rights (k + 1) (set worths k z)
-worths-next r c downs rights k worths {z} f h e =
-    record { long = rw (length-set worths k z) (omega arith); at = λ j l. go j (ℕ-discrete j k) (omega arith) }
-  where
-    go : (j : ℕ) → Dec (j ≡ k) → j ≤ k
-        → getD (set worths k z) j (pos 0) ≡ worthAt r c (getD downs j 0) (getD rights j 0)
-    go j (yes q) l = rw (q, getD-set-same worths k z (pos 0) h) e
-    go j (no q) l = getD-set-other worths k j z (pos 0) q ∙ f .at j (omega arith)
+module _ (r : ℕ) {c : List ℤ} (small : Small mostKernel c) (dy dx : ℤ) {top away : ℤ}
+    (top-is : top ≡ squareAt (pos 0) (2 * r) c (pos 0) (pos 0)) (away-is : away ≡ squareAt (pos 0) (2 * r) c dy dx) where
+  held : {z : ℤ} (y x : ℤ) → z ≡ squareAt (pos 0) (2 * r) c y x
+      → Holds w32 (ofZ w32 z) (squareAt (pos 0) (2 * r) c y x) mostKernel
+  held {z} y x e =
+      named e
+      (of-small w32 z (subst (λ (v : ℤ). natAbs v ≤ mostKernel) (sym e) (square-small (2 * r) c y x small)) (lit< tt))
 
--- each is small
-pub worth-small : (r : ℕ) (c : List ℤ) (down right : ℕ) → Small 1048576 c → natAbs (worthAt r c down right) ≤ 534773760
-worth-small r c down right small =
-    natAbs-mul-le (pos 255) (top -ℤ away) {A = 255} {B = 2097152} (lit≤ tt)
-    (apart top away (square-small (2 * r) c (pos 0) (pos 0) small) (square-small (2 * r) c _ _ small))
-  where
-    top : ℤ
-    top = squareAt (pos 0) (2 * r) c (pos 0) (pos 0)
+  abbrev gap : ℤ
+  gap = toZ w32 (ofZ w32 top) -ℤ toZ w32 (ofZ w32 away)
 
-    away : ℤ
-    away = squareAt (pos 0) (2 * r) c (pos 6 -ℤ pos down) (pos 6 -ℤ pos right)
+  pub gap-fits : SFits w32 (toZ w32 (ofZ w32 top) -ℤ toZ w32 (ofZ w32 away))
+  gap-fits = sub-fits (held _ _ top-is) (held _ _ away-is) (lit< tt)
 
-    apart : (a b : ℤ) → natAbs a ≤ 1048576 → natAbs b ≤ 1048576 → natAbs (a -ℤ b) ≤ 2097152
-    apart a b h l = omega (arith, natAbs-+ℤ a (negℤ b), natAbs-negℤ b)
+  gap-held : Holds w32 (ofZ w32 gap)
+      (squareAt (pos 0) (2 * r) c (pos 0) (pos 0) -ℤ squareAt (pos 0) (2 * r) c dy dx) (2 * mostKernel)
+  gap-held = sub-holds (held _ _ top-is) (held _ _ away-is) (lit< tt)
+
+  pub worth-fits : SFits w32 (pos 255 *ℤ toZ w32 (ofZ w32 gap))
+  worth-fits = mul-fits (literal w32 255 tt) gap-held (lit< tt)
+
+  pub worth-is : toZ w32 (ofZ w32 (pos 255 *ℤ toZ w32 (ofZ w32 gap)))
+      ≡ pos 255 *ℤ (squareAt (pos 0) (2 * r) c (pos 0) (pos 0) -ℤ squareAt (pos 0) (2 * r) c dy dx)
+  worth-is = mul-holds (literal w32 255 tt) gap-held (lit< tt) .value

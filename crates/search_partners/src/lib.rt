@@ -4,23 +4,20 @@ ghost use mathlib.Core.Path.{_≡_};
 ghost use Prim.Native.Nat.{suc, _+_, _*_, _≤_, _<_};
 ghost use lib.ListN.{length};
 ghost use Rattle.model.specs.Basic.{pick};
-ghost use Rattle.model.specs.Error.{cellAt};
-ghost use Rattle.model.specs.Partners.{HoldsWorths, biased, lands, partner};
-ghost use Rattle.model.specs.Window.{Small};
+ghost use Rattle.model.specs.Partners.{lands, partner};
+ghost use Rattle.invariants.specs.Partners.{HoldsWorths, offsetOf};
+ghost use Rattle.invariants.specs.Plate.{cellOf};
+ghost use Rattle.invariants.specs.Window.{HoldsSquare};
+use model::Cell;
 use search_change::between;
 use search_change::peak;
-
-// a cell by its row and its column
-pub struct Cell {
-    pub row: usize,
-    pub col: usize,
-}
+use slices::index;
+use std::num::wrapping_sub_usize;
 
 // the cell n further on in raster order, where the row has so many left
 pub fn ahead(width: usize, at: Cell, n: usize) -> Cell
     requires { ⌜ (at .row < 256) × (at .col < width) × (width ≤ 256) × (at .col + n ≤ width) ⌝ }
-    ensures { λ r. ⌜ cellAt width (r .row) (r .col) ≡ cellAt width (at .row) (at .col) + n ⌝ }
-    ensures { λ r. ⌜ r .col < width ⌝ }
+    ensures { λ r. ⌜ (cellOf width r ≡ cellOf width at + n) × (r .col < width) ⌝ }
 {
     if at.col + n == width {
         return Cell {
@@ -37,55 +34,44 @@ pub fn ahead(width: usize, at: Cell, n: usize) -> Cell
 // the next cell in raster order
 pub fn next(width: usize, at: Cell) -> Cell
     requires { ⌜ (at .row < 256) × (at .col < width) × (width ≤ 256) ⌝ }
-    ensures { λ r. ⌜ cellAt width (r .row) (r .col) ≡ suc (cellAt width (at .row) (at .col)) ⌝ }
-    ensures { λ r. ⌜ r .col < width ⌝ }
+    ensures { λ r. ⌜ (cellOf width r ≡ suc (cellOf width at)) × (r .col < width) ⌝ }
 {
     ahead(width, at, 1)
 }
 
-// what 255 × (P - c(d)) is for each offset d within reach
-pub fn weigh_offsets(
-    radius: usize,
-    c: &[i32],
-    downs: &[u8],
-    rights: &[u8],
-    count: usize,
-    worths: &mut [i32],
-)
-    requires { ⌜ (radius ≤ 3) × ((4 * radius + 1) * (4 * radius + 1) ≤ length (now c)) × Small 1048576 (now c) ⌝ }
-    requires { ⌜ (count ≤ length (now downs)) × (count ≤ length (now rights)) × (count ≤ length (now worths)) ⌝ }
-    ensures { λ _. ⌜ HoldsWorths radius (now (c .entry)) (now (downs .entry)) (now (rights .entry)) count
-        (now (worths .exit)) ⌝ }
+// what 255 × (P - c(d)) is for each offset d, given by its code
+pub fn weigh_offsets(radius: usize, c: &[i32], codes: &[u8], worths: &mut [i32])
+    requires { ⌜ HoldsSquare radius (now c) × (length (now worths) ≡ length (now codes)) ⌝ }
+    ensures { λ _. ⌜ HoldsWorths radius (now (c .entry)) (now (codes .entry)) (now (worths .exit)) ⌝ }
 {
     let top = peak(radius, c);
+    let middle = Cell { row: 6, col: 6 };
     let mut k: usize = 0;
-    while k < count {
-        let apart = between(radius, c, 6, 6, downs[k] as usize, rights[k] as usize);
-        worths[k] = 255 * (top - apart);
+    while k < codes.len() {
+        let code = codes[k];
+        let to = Cell {
+            row: (code / 16) as usize,
+            col: (code % 16) as usize,
+        };
+        worths[k] = 255 * (top - between(radius, c, middle, to));
         k += 1;
     }
 }
 
-// the cell at that offset, each coordinate with 6 added, or the number of cells where it is off the plate
-pub fn partner_cell(width: usize, height: usize, at: Cell, down: u8, right: u8) -> usize
+// the cell at the offset of that code, or the number of cells where it is off the plate
+pub fn partner_cell(width: usize, height: usize, at: Cell, code: u8) -> usize
     requires { ⌜ (at .row < height) × (at .col < width) × (width ≤ 256) × (height ≤ 256) ⌝ }
-    ensures { λ r. ⌜ r ≡ pick (lands width height (cellAt width (at .row) (at .col)) (biased down right))
-        (partner width (cellAt width (at .row) (at .col)) (biased down right)) (height * width) ⌝ }
+    ensures { λ r. ⌜ r ≡ pick (lands width height (cellOf width at) (offsetOf code))
+        (partner width (cellOf width at) (offsetOf code)) (height * width) ⌝ }
 {
     let cells = height * width;
-    let y = at.row + down as usize;
-    let x = at.col + right as usize;
-    if y < 6 {
+    let row = wrapping_sub_usize(at.row + (code / 16) as usize, 6);
+    if height <= row {
         return cells;
     }
-    if x < 6 {
+    let col = wrapping_sub_usize(at.col + (code % 16) as usize, 6);
+    if width <= col {
         return cells;
     }
-    if height + 6 <= y {
-        return cells;
-    }
-    if width + 6 <= x {
-        return cells;
-    }
-    (y - 6) * width + (x - 6)
+    index(width, Cell { row: row, col: col })
 }

@@ -1,74 +1,54 @@
--- What the offsets are worth in rows, entry by entry; and rows in which every trial fails, one after the other.
---   grid-next, worth-in-small       one more entry; each is small
---   run-next                        one cell more in a row
+-- What the offsets are worth in rows; and rows in which every trial fails, one after the other.
+--   row-length-fits                 a row holds what the reach asks, and is short
+--   worth-in-small                  each entry is small
 --   rows-none, rows-more, rows-all  no row yet, one row more, all rows within reach
-use mathlib.Core.Bool.{Bool, true, false}
 use mathlib.Core.List.{List}
-use mathlib.Core.Path.{_≡_, _∙_}
+use mathlib.Core.Path.{_≡_}
 use Prim.Native.Nat.{ℕ, _+_, _*_, _-_, _/_, _%_, _≤_, _<_, min}
 use native.Mathlib.Decide.{ℕ-discrete}
 use native.Mathlib.Omega.{arith}
-use lib.Dec.{leb, lit≤}
+use borrow.Author.Tests.{ltb-true}
+use lib.Dec.{leb, ltb, lit≤}
 use lib.IntN.{ℤ, pos, natAbs}
-use lib.ListN.{length, getD, set, length-set}
-use lib.Seq.{getD-set-same, getD-set-other}
-use Rattle.model.specs.Basic.{pick}
+use lib.ListN.{getD}
 use Rattle.model.specs.Error.{cellAt}
-use Rattle.model.specs.Partners.{worthAt}
-use Rattle.model.specs.Window.{Small}
-use Rattle.search_partners.proofs.Worths.{worth-small}
+use Rattle.model.proofs.Basic.{pick-cases}
+use Rattle.invariants.specs.Window.{Small, mostKernel, mostWorth}
+use Rattle.invariants.proofs.Partners.{worth-small}
 use Rattle.search_runs.specs.Run.{Fails}
-use Rattle.search_prune.specs.Grid.{worthIn, HoldsGrid, RunClear, RowsClear}
+use Rattle.search_prune.specs.Grid.{rowLength, worthIn, RunClear, RowsClear}
 
-module _ (radius : ℕ) (c : List ℤ) (reach side : ℕ) where
-  -- one more entry
-  pub grid-next : (k : ℕ) (grid : List ℤ) {z : ℤ} → HoldsGrid radius c reach side k grid → k < length grid
-      → z ≡ worthIn radius c reach side k → HoldsGrid radius c reach side (k + 1) (set grid k z)
-  grid-next k grid {z} f h e =
-      record { long = rw (length-set grid k z) (omega arith); at = λ q l. go q (ℕ-discrete q k) (omega arith) }
-    where
-      go : (q : ℕ) → Dec (q ≡ k) → q ≤ k → getD (set grid k z) q (pos 0) ≡ worthIn radius c reach side q
-      go q (yes p) l = rw (p, getD-set-same grid k z (pos 0) h) e
-      go q (no p) l = getD-set-other grid k q z (pos 0) p ∙ f .at q (omega arith)
+pub row-length-fits : {reach : ℕ} → reach ≤ 6 → (2 * reach + 1 ≤ rowLength reach) × (rowLength reach ≤ 16)
+unfolding rowLength
+row-length-fits {reach} h =
+    pick-cases (λ n. (2 * reach + 1 ≤ n) × (n ≤ 16)) (ltb reach 4)
+    (λ e. (omega (arith, ltb-true reach 4 e), lit≤ tt)) (λ e. (omega arith, lit≤ tt))
 
-  -- each is small
-  pub worth-in-small : (q : ℕ) → Small 1048576 c → natAbs (worthIn radius c reach side q) ≤ 534773760
-  unfolding worthIn
-  worth-in-small q small = go (leb (q % side) (2 * reach))
-    where
-      go : (b : Bool)
-          → natAbs (pick b (worthAt radius c (q / side + 6 - reach) (q % side + 6 - reach)) (pos 534773760)) ≤ 534773760
-      go true = worth-small radius c (q / side + 6 - reach) (q % side + 6 - reach) small
-      go false = lit≤ tt
+pub worth-in-small : (radius : ℕ) {c : List ℤ} → Small mostKernel c → (reach q : ℕ)
+    → natAbs (worthIn radius c reach q) ≤ mostWorth
+unfolding worthIn
+worth-in-small radius small reach q =
+    pick-cases (λ z. natAbs z ≤ mostWorth) (leb (q % rowLength reach) (2 * reach))
+    (λ e. worth-small radius small (q / rowLength reach + 6 - reach) (q % rowLength reach + 6 - reach)) (λ e. lit≤ tt)
 
 -- ---- trials that fail
-module _ (dots : List ℕ) (table grid : List ℤ) (m : ℕ) where
-  -- one cell more in a row
-  pub run-next : {from at k : ℕ} → RunClear dots table grid m from at k
-      → Fails dots table m (from + k) (getD grid (at + k) (pos 0))
-      → RunClear dots table grid m from at (k + 1)
-  run-next {from} {at} {k} r e = record { each = λ j h. go j (ℕ-discrete j k) (omega arith) }
-    where
-      go : (j : ℕ) → Dec (j ≡ k) → j ≤ k → Fails dots table m (from + j) (getD grid (at + j) (pos 0))
-      go j (yes p) h = rw p e
-      go j (no p) h = r .each j (omega arith)
-
-module _ {width reach side : ℕ} {dots : List ℕ} {table grid : List ℤ} {row col : ℕ} where
+module _ {width reach : ℕ} {dots : List ℕ} {table grid : List ℤ} {row col : ℕ} where
   -- no row yet
-  pub rows-none : RowsClear width (row - reach) reach side dots table grid row col
+  pub rows-none : RowsClear width (row - reach) reach dots table grid row col
   rows-none = record { each = λ j i a b d e f. absurd (omega arith) }
 
   -- one row more
   pub rows-more : (y : ℕ) → row ≤ y + reach → reach ≤ y * width + col
-      → RowsClear width y reach side dots table grid row col
-      → RunClear dots table grid (cellAt width row col) (y * width + col - reach) ((y + reach - row) * side) side
-      → RowsClear width (y + 1) reach side dots table grid row col
+      → RowsClear width y reach dots table grid row col
+      → RunClear dots table grid (cellAt width row col) (y * width + col - reach)
+      ((y + reach - row) * rowLength reach) (rowLength reach)
+      → RowsClear width (y + 1) reach dots table grid row col
   rows-more y above placed r n = record { each = λ j i a b d e f. go j i a b d e f (ℕ-discrete (row + j) (y + reach)) }
     where
-      go : (j i : ℕ) → j ≤ 2 * reach → i < side → reach ≤ row + j → row + j < y + 1 + reach → reach ≤ col + i
+      go : (j i : ℕ) → j ≤ 2 * reach → i < rowLength reach → reach ≤ row + j → row + j < y + 1 + reach → reach ≤ col + i
           → Dec (row + j ≡ y + reach)
           → Fails dots table (cellAt width row col) (cellAt width (row + j - reach) (col + i - reach))
-          (getD grid (j * side + i) (pos 0))
+          (getD grid (j * rowLength reach + i) (pos 0))
       go j i a b d e f (no p) = r .each j i a b d (omega arith) f
       go j i a b d e f (yes p) =
           let same-row : row + j - reach ≡ y = omega arith in
@@ -78,6 +58,6 @@ module _ {width reach side : ℕ} {dots : List ℕ} {table grid : List ℤ} {row
 
   -- all rows within reach
   pub rows-all : (y height : ℕ) → min (row + reach + 1) height ≤ y
-      → RowsClear width y reach side dots table grid row col
-      → RowsClear width height reach side dots table grid row col
+      → RowsClear width y reach dots table grid row col
+      → RowsClear width height reach dots table grid row col
   rows-all y height h r = record { each = λ j i a b d g f. r .each j i a b d (omega arith) f }

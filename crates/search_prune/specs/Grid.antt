@@ -3,42 +3,54 @@
 use mathlib.Core.List.{List}
 use mathlib.Core.Path.{_≡_}
 use Prim.Native.Nat.{ℕ, _+_, _*_, _-_, _/_, _%_, _≤_, _<_}
-use lib.Dec.{leb}
+use lib.Dec.{leb, ltb}
 use lib.IntN.{ℤ, pos}
 use lib.ListN.{length, getD}
 use Rattle.model.specs.Basic.{pick}
 use Rattle.model.specs.Error.{cellAt}
-use Rattle.model.specs.Partners.{worthAt}
-use Rattle.model.specs.Window.{Small}
-use Rattle.search_runs.specs.Run.{Fails}
+use Rattle.invariants.specs.Partners.{worthAt}
+use Rattle.invariants.specs.Window.{Small, mostWorth}
+use Rattle.search_runs.specs.Run.{Tabled, Fails}
 
-module _ (radius : ℕ) (c : List ℤ) (reach side : ℕ) where
-  -- entry q of rows of `side`: what the offset (q / side - reach, q % side - reach) is worth, and past the reach a
-  -- number that no difference of two table entries outweighs
-  unfoldable pub worthIn : ℕ → ℤ
-  worthIn q =
-      pick (leb (q % side) (2 * reach))
-      (worthAt radius c (q / side + 6 - reach) (q % side + 6 - reach))
-      (pos 534773760)
+-- how long the rows are: they hold the 2 × reach + 1 entries that are wanted
+unfoldable pub rowLength : (reach : ℕ) → ℕ
+rowLength reach = pick (ltb reach 4) 8 16
 
-  -- the first n entries of a list are these
-  pub record HoldsGrid (n : ℕ) (grid : List ℤ) : Type 0 where
-    pub long : n ≤ length grid
-    pub at : (q : ℕ) → q < n → getD grid q (pos 0) ≡ worthIn q
+-- and how long all of them are
+abbrev pub gridSize : (reach : ℕ) → ℕ
+gridSize reach = (2 * reach + 1) * rowLength reach
 
--- rows long enough for the reach, and all of them laid
-pub record GridFits (radius : ℕ) (c : List ℤ) (reach side : ℕ) (grid : List ℤ) : Type 0 where
+-- entry q: what the offset (q / length - reach, q % length - reach) is worth, and past the reach a number that no
+-- difference of two table entries outweighs
+unfoldable pub worthIn : (radius : ℕ) (c : List ℤ) (reach q : ℕ) → ℤ
+worthIn radius c reach q =
+    pick (leb (q % rowLength reach) (2 * reach))
+    (worthAt radius c (q / rowLength reach + 6 - reach) (q % rowLength reach + 6 - reach))
+    (pos mostWorth)
+
+-- all of them laid
+pub record GridFits (radius : ℕ) (c : List ℤ) (reach : ℕ) (grid : List ℤ) : Type 0 where
   pub near : reach ≤ 6
-  pub wide : (2 * reach + 1 ≤ side) × (side ≤ 16)
-  pub small : Small 1048576 c
-  pub holds : HoldsGrid radius c reach side ((2 * reach + 1) * side) grid
+  pub long : length grid ≡ gridSize reach
+  pub small : Small mostWorth grid
+  pub at : (q : ℕ) → q < gridSize reach → getD grid q (pos 0) ≡ worthIn radius c reach q
 
--- the trial of m with each of the n cells from `from` on fails, the worths standing from `at` on
-pub record RunClear (dots : List ℕ) (table grid : List ℤ) (m from at n : ℕ) : Type 0 where
-  pub each : (k : ℕ) → k < n → Fails dots table m (from + k) (getD grid (at + k) (pos 0))
+module _ (dots : List ℕ) (table grid : List ℤ) (m from at n : ℕ) where
+  -- m can be tried with each of the n cells from `from` on, the worths standing from `at` on
+  pub record RunTest : Type 0 where
+    pub tabled : Tabled dots table
+    pub here : m < length dots
+    pub there : from + n ≤ length dots
+    pub laid : at + n ≤ length grid
+    pub small : Small mostWorth grid
+
+  -- each such trial fails
+  pub record RunClear : Type 0 where
+    pub each : (k : ℕ) → k < n → Fails dots table m (from + k) (getD grid (at + k) (pos 0))
 
 -- so it is with each cell in the rows above `bottom` whose offset from (row, col) is (j - reach, i - reach)
-pub record RowsClear (width bottom reach side : ℕ) (dots : List ℕ) (table grid : List ℤ) (row col : ℕ) : Type 0 where
-  pub each : (j i : ℕ) → j ≤ 2 * reach → i < side → reach ≤ row + j → row + j < bottom + reach → reach ≤ col + i
+pub record RowsClear (width bottom reach : ℕ) (dots : List ℕ) (table grid : List ℤ) (row col : ℕ) : Type 0 where
+  pub each : (j i : ℕ) → j ≤ 2 * reach → i < rowLength reach → reach ≤ row + j → row + j < bottom + reach
+      → reach ≤ col + i
       → Fails dots table (cellAt width row col) (cellAt width (row + j - reach) (col + i - reach))
-      (getD grid (j * side + i) (pos 0))
+      (getD grid (j * rowLength reach + i) (pos 0))

@@ -2,53 +2,71 @@
 // lower the squared error. Where none does, the trials in order can be left out.
 ghost use mathlib.Core.Bool.{true, false};
 ghost use mathlib.Core.Path.{_≡_};
-ghost use Prim.Native.Nat.{ℕ, _+_, _*_, _<_, _≤_};
-ghost use lib.IntN.{pos, natAbs};
-ghost use lib.ListN.{length, getD};
+ghost use Prim.Native.Nat.{_*_, _<_, _≤_};
+ghost use lib.IntN.{pos};
+ghost use lib.ListN.{length};
 ghost use Rattle.model.specs.Basic.{squareAt};
-ghost use Rattle.model.specs.Window.{Small, mostFiltered};
-ghost use Rattle.search_prune.specs.Grid.{worthIn, GridFits, RunClear, RowsClear};
+ghost use Rattle.invariants.specs.Window.{Small, HoldsSquare, mostWorth};
+ghost use Rattle.search_runs.specs.Run.{Tabled};
+ghost use Rattle.search_prune.specs.Grid.{rowLength, gridSize, worthIn, GridFits, RunTest, RunClear, RowsClear};
 use filter_window::high;
 use filter_window::low;
+use model::Cell;
 use search_change::between;
 use search_change::difference;
 use search_change::lower_swap;
 use search_change::peak;
-use search_partners::Cell;
+use slices::index;
+
+// the largest size of what an offset is worth: no difference of two table entries outweighs it
+const MOST_WORTH: i32 = 534773760;
 
 // how long the rows are: 8 or 16 entries, which hold the 2 × reach + 1 that are wanted
-pub fn side_of(reach: usize) -> usize
-    requires { ⌜ reach ≤ 6 ⌝ }
-    ensures { λ r. ⌜ (2 * reach + 1 ≤ r) × (r ≤ 16) ⌝ }
+pub fn row_length(reach: usize) -> usize
+    ensures { λ r. ⌜ r ≡ rowLength reach ⌝ }
 {
     if reach < 4 { 8 } else { 16 }
 }
 
-// what the offset of entry q is worth, or past the reach a number that no difference outweighs
-fn worth_at(radius: usize, c: &[i32], reach: usize, side: usize, top: i32, q: usize) -> i32
-    requires { ⌜ (radius ≤ 3) × ((4 * radius + 1) * (4 * radius + 1) ≤ length (now c)) × Small 1048576 (now c) ⌝ }
-    requires { ⌜ (reach ≤ 6) × (2 * reach + 1 ≤ side) × (side ≤ 16) × (q < (2 * reach + 1) * side) ⌝ }
-    requires { ⌜ top ≡ squareAt (pos 0) (2 * radius) (now c) (pos 0) (pos 0) ⌝ }
-    ensures { λ r. ⌜ r ≡ worthIn radius (now (c .entry)) reach side q ⌝ }
+// how long all of them are
+pub fn grid_size(reach: usize) -> usize
+    requires { ⌜ reach ≤ 6 ⌝ }
+    ensures { λ r. ⌜ (r ≡ gridSize reach) × (r ≤ 208) ⌝ }
 {
+    (2 * reach + 1) * row_length(reach)
+}
+
+// what the offset of entry q is worth, or past the reach a number that no difference outweighs
+fn worth_at(radius: usize, c: &[i32], reach: usize, top: i32, q: usize) -> i32
+    requires { ⌜ HoldsSquare radius (now c) × (top ≡ squareAt (pos 0) (2 * radius) (now c) (pos 0) (pos 0)) ⌝ }
+    requires { ⌜ (reach ≤ 6) × (q < gridSize reach) ⌝ }
+    ensures { λ r. ⌜ r ≡ worthIn radius (now (c .entry)) reach q ⌝ }
+{
+    let side = row_length(reach);
     let i = q % side;
     if 2 * reach < i {
-        return 534773760;
+        return MOST_WORTH;
     }
-    255 * (top - between(radius, c, reach, reach, q / side, i))
+    let middle = Cell {
+        row: reach,
+        col: reach,
+    };
+    let to = Cell {
+        row: q / side,
+        col: i,
+    };
+    255 * (top - between(radius, c, middle, to))
 }
 
 // what the offsets within reach are worth, in rows
-pub fn lay_worths(radius: usize, c: &[i32], reach: usize, side: usize, grid: &mut [i32])
-    requires { ⌜ (radius ≤ 3) × ((4 * radius + 1) * (4 * radius + 1) ≤ length (now c)) × Small 1048576 (now c) ⌝ }
-    requires { ⌜ (reach ≤ 6) × (2 * reach + 1 ≤ side) × (side ≤ 16) × ((2 * reach + 1) * side ≤ length (now grid)) ⌝ }
-    ensures { λ _. ⌜ GridFits radius (now (c .entry)) reach side (now (grid .exit)) ⌝ }
+pub fn lay_worths(radius: usize, c: &[i32], reach: usize, grid: &mut [i32])
+    requires { ⌜ HoldsSquare radius (now c) × (reach ≤ 6) × (length (now grid) ≡ gridSize reach) ⌝ }
+    ensures { λ _. ⌜ GridFits radius (now (c .entry)) reach (now (grid .exit)) ⌝ }
 {
     let top = peak(radius, c);
-    let n = (2 * reach + 1) * side;
     let mut q: usize = 0;
-    while q < n {
-        let worth = worth_at(radius, c, reach, side, top, q);
+    while q < grid.len() {
+        let worth = worth_at(radius, c, reach, top, q);
         grid[q] = worth;
         q += 1;
     }
@@ -64,10 +82,7 @@ fn any_below(
     at: usize,
     n: usize,
 ) -> bool
-    requires { ⌜ (m < length (now dots)) × (length (now table) ≡ length (now dots)) ⌝ }
-    requires { ⌜ (from + n ≤ length (now table)) × (at + n ≤ length (now grid)) ⌝ }
-    requires { ⌜ Small mostFiltered (now table) ⌝ }
-    requires { ⌜ ((k : ℕ) → k < n → natAbs (getD (now grid) (at + k) (pos 0)) ≤ 534773760) ⌝ }
+    requires { ⌜ RunTest (now dots) (now table) (now grid) m from at n ⌝ }
     ensures { λ r. ⌜ (r ≡ false → RunClear (now (dots .entry)) (now (table .entry)) (now (grid .entry)) m from at n) ⌝ }
 {
     let mut any = false;
@@ -92,10 +107,7 @@ fn any_lower(
     at: usize,
     n: usize,
 ) -> bool
-    requires { ⌜ (m < length (now dots)) × (length (now table) ≡ length (now dots)) ⌝ }
-    requires { ⌜ (from + n ≤ length (now table)) × (at + n ≤ length (now grid)) ⌝ }
-    requires { ⌜ Small mostFiltered (now table) ⌝ }
-    requires { ⌜ ((k : ℕ) → k < n → natAbs (getD (now grid) (at + k) (pos 0)) ≤ 534773760) ⌝ }
+    requires { ⌜ RunTest (now dots) (now table) (now grid) m from at n ⌝ }
     ensures { λ r. ⌜ (r ≡ false → RunClear (now (dots .entry)) (now (table .entry)) (now (grid .entry)) m from at n) ⌝ }
 {
     let mut k: usize = 0;
@@ -118,10 +130,7 @@ fn row_lowers(
     at: usize,
     n: usize,
 ) -> bool
-    requires { ⌜ (m < length (now dots)) × (length (now table) ≡ length (now dots)) ⌝ }
-    requires { ⌜ (from + n ≤ length (now table)) × (at + n ≤ length (now grid)) ⌝ }
-    requires { ⌜ Small mostFiltered (now table) ⌝ }
-    requires { ⌜ ((k : ℕ) → k < n → natAbs (getD (now grid) (at + k) (pos 0)) ≤ 534773760) ⌝ }
+    requires { ⌜ RunTest (now dots) (now table) (now grid) m from at n ⌝ }
     ensures { λ r. ⌜ (r ≡ false → RunClear (now (dots .entry)) (now (table .entry)) (now (grid .entry)) m from at n) ⌝ }
 {
     if any_below(dots, table, m, from, grid, at, n) {
@@ -136,23 +145,21 @@ pub fn may_lower(
     width: usize,
     height: usize,
     reach: usize,
-    side: usize,
     grid: &[i32],
     dots: &[u8],
     table: &[i32],
-    cell: Cell,
+    at: Cell,
 ) -> bool
-    requires { ⌜ (cell .row < height) × (cell .col < width) × (width ≤ 256) × (height ≤ 256) × (reach ≤ 6) ⌝ }
-    requires { ⌜ (length (now dots) ≡ height * width) × (length (now table) ≡ height * width) ⌝ }
-    requires { ⌜ (side ≤ 16) × ((2 * reach + 1) * side ≤ length (now grid)) ⌝ }
-    requires { ⌜ Small mostFiltered (now table) ⌝ }
-    requires { ⌜ ((q : ℕ) → q < (2 * reach + 1) * side → natAbs (getD (now grid) q (pos 0)) ≤ 534773760) ⌝ }
-    ensures { λ r. ⌜ (r ≡ false → RowsClear width height reach side
-        (now (dots .entry)) (now (table .entry)) (now (grid .entry)) (cell .row) (cell .col)) ⌝ }
+    requires { ⌜ (at .row < height) × (at .col < width) × (width ≤ 256) × (height ≤ 256) × (reach ≤ 6) ⌝ }
+    requires { ⌜ Tabled (now dots) (now table) × (length (now dots) ≡ height * width) ⌝ }
+    requires { ⌜ (length (now grid) ≡ gridSize reach) × Small mostWorth (now grid) ⌝ }
+    ensures { λ r. ⌜ (r ≡ false → RowsClear width height reach
+        (now (dots .entry)) (now (table .entry)) (now (grid .entry)) (at .row) (at .col)) ⌝ }
 {
-    let row = cell.row;
-    let col = cell.col;
-    let m = row * width + col;
+    let side = row_length(reach);
+    let row = at.row;
+    let col = at.col;
+    let m = index(width, at);
     let bottom = high(row, reach, height);
     let mut y = low(row, reach);
     while y < bottom {
@@ -164,8 +171,8 @@ pub fn may_lower(
         if table.len() < from + side {
             return true;
         }
-        let at = (y + reach - row) * side;
-        if row_lowers(dots, table, m, from, grid, at, side) {
+        let first = (y + reach - row) * side;
+        if row_lowers(dots, table, m, from, grid, first, side) {
             return true;
         }
         y += 1;

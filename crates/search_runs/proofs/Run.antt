@@ -1,86 +1,75 @@
--- A run of cells where nothing is accepted.
---   toggles-next  toggles: one cell more
---   swaps-next    swaps with the cell as far on: one cell more
---   cells-next    swaps with the partners of each cell: one offset more
-use mathlib.Core.Bool.{Bool, true, false, _&&_}
+-- Runs of cells where nothing is accepted, as the loops over them go.
+--   raised             a flag that is raised stays raised
+--   worth-held         what an offset is worth, as a local holds it
+--   sum-fits, unlower  the sum of a trial, of locals: it fits, and where it is not below 0 the trial fails
+--   offset-clear       a run that is clear from cell to cell is clear at that offset
+use mathlib.Core.Bool.{Bool, true, false, not, and-false, true≢false}
 use mathlib.Core.List.{List}
 use mathlib.Core.Logic.{_⊎_, inl, inr}
-use mathlib.Core.Path.{_≡_, refl, sym, _∙_, ap, subst}
+use mathlib.Core.Path.{_≡_, sym, _∙_, ap}
 use Prim.Native.Nat.{ℕ, _+_, _*_, _-_, _≤_, _<_}
 use native.Mathlib.Nat.{sub-add-cancel, add-mul}
-use native.Mathlib.Decide.{ℕ-discrete}
 use native.Mathlib.Omega.{arith}
-use lib.IntN.{ℤ, pos}
+use lib.Dec.{lit<, eqb}
+use lib.IntN.{ℤ, pos, natAbs, _+ℤ_, _-ℤ_, _*ℤ_}
 use lib.ListN.{getD}
 use lib.Signed.{ltZ}
-use Rattle.model.specs.Change.{sign, toggleSum}
-use Rattle.model.specs.Error.{cellAt}
-use Rattle.search_runs.specs.Run.{Fails, TogglesClear, SwapsClear, CellsClear}
+use mir.Syntax.{w32}
+use mir.Val.{toZ, ofZ, SFits}
+use Rattle.algebra.proofs.Machine.{Holds, named, of-small, add-fits, add-holds}
+use Rattle.model.specs.Change.{sign}
+use Rattle.model.specs.Error.{cellAt, mostFiltered}
+use Rattle.invariants.specs.Partners.{rowOf, columnOf}
+use Rattle.invariants.specs.Window.{Small, mostWorth}
+use Rattle.search_runs.specs.Run.{Fails, SwapsClear, OffsetClear}
 
--- how a branch was left
-pub either : {A B C : Type 0} → A ⊎ B → (A → C) → (B → C) → C
-either (inl a) f g = f a
-either (inr b) f g = g b
+-- a flag that is raised stays raised: as long as it is down, what held before holds, and one cell more
+pub raised : {Yes No Before After : Type 0} {old new : Bool} → (Yes × (new ≡ true)) ⊎ (No × (new ≡ old))
+    → (old ≡ false → Before) → (No → Before → After) → new ≡ false → After
+raised (inl (y, e)) held more f = absurd (true≢false (sym e ∙ f))
+raised (inr (n, e)) held more f = more n (held (sym e ∙ f))
 
--- a conjunction of which the second fails
-pub and-false : (a : Bool) {b : Bool} → b ≡ false → a && b ≡ false
-and-false true e = e
-and-false false e = refl
+-- ---- the sum of a trial, as the locals hold its terms
+pub worth-held : {l : List ℤ} → Small mostWorth l → (q : ℕ)
+    → Holds w32 (ofZ w32 (getD l q (pos 0))) (getD l q (pos 0)) mostWorth
+worth-held {l} small q = of-small w32 (getD l q (pos 0)) (small .each q) (lit< tt)
 
--- one cell more
-pub toggles-next : (peak : ℤ) (dots : List ℕ) (table : List ℤ) (from k : ℕ) → TogglesClear peak dots table from k
-    → ltZ (toggleSum 255 peak (sign dots (from + k)) (getD table (from + k) (pos 0))) (pos 0) ≡ false
-    → TogglesClear peak dots table from (k + 1)
-toggles-next peak dots table from k r e = record { each = λ j h. go j (ℕ-discrete j k) (omega arith) }
-  where
-    go : (j : ℕ) → Dec (j ≡ k) → j ≤ k
-        → ltZ (toggleSum 255 peak (sign dots (from + j)) (getD table (from + j) (pos 0))) (pos 0) ≡ false
-    go j (yes p) h = rw p e
-    go j (no p) h = r .each j (omega arith)
+pub sum-fits : (difference : ℤ) {worth : ℤ} {bits : ℕ} → natAbs difference ≤ 2 * mostFiltered
+    → Holds w32 bits worth mostWorth → SFits w32 (toZ w32 (ofZ w32 difference) +ℤ toZ w32 bits)
+sum-fits difference small held = add-fits (of-small w32 difference small (lit< tt)) held (lit< tt)
 
--- one cell more, with the cell as far on
-pub swaps-next : (dots : List ℕ) (table : List ℤ) (worth : ℤ) (from to k : ℕ) → SwapsClear dots table worth from to k
-    → Fails dots table (from + k) (to + k) worth → SwapsClear dots table worth from to (k + 1)
-swaps-next dots table worth from to k r e = record { each = λ j h. go j (ℕ-discrete j k) (omega arith) }
-  where
-    go : (j : ℕ) → Dec (j ≡ k) → j ≤ k → Fails dots table (from + j) (to + j) worth
-    go j (yes p) h = rw p e
-    go j (no p) h = r .each j (omega arith)
+-- it is not below 0
+pub unlower : (dots : List ℕ) (table : List ℤ) (m n : ℕ) {difference worth : ℤ} {bits : ℕ}
+    → (difference ≡ sign dots m *ℤ (getD table m (pos 0) -ℤ getD table n (pos 0)))
+    × (natAbs difference ≤ 2 * mostFiltered)
+    → Holds w32 bits worth mostWorth
+    → ltZ (toZ w32 (ofZ w32 (toZ w32 (ofZ w32 difference) +ℤ toZ w32 bits))) (pos 0) ≡ false
+    → Fails dots table m n worth
+unlower dots table m n {difference} (e, small) held f =
+    let first = named e (of-small w32 difference small (lit< tt)) in
+    rw (rw (add-holds first held (lit< tt) .value) at f) (and-false (not (eqb (getD dots m 0) (getD dots n 0))))
 
 -- ---- a run of cells of a row with its partners
 -- the partner of the k-th cell, counted from that of the first
-there-is : (x y w k to : ℕ) → 6 ≤ x → 6 ≤ y + k → to + (6 * w + 6) ≡ x * w + y
-    → to + k ≡ (x - 6) * w + (y + k - 6)
-there-is x y w k to h l e =
+there-is : (w to k x y z : ℕ) → 6 ≤ x → 6 ≤ z → to + (6 * w + 6) ≡ x * w + y → y + k ≡ z
+    → to + k ≡ cellAt w (x - 6) (z - 6)
+there-is w to k x y z h l e f =
     let rows : x * w ≡ (x - 6) * w + 6 * w = ap (λ n. n * w) (sym (sub-add-cancel h)) ∙ add-mul (x - 6) 6 w in
-    omega (arith, e, rows)
+    omega arith
 
--- one offset more
-pub cells-next : (width : ℕ) (dots : List ℕ) (table : List ℤ) (downs rights : List ℕ) (worths : List ℤ)
-    (j row col n to : ℕ)
-    → to + (6 * width + 6) ≡ (row + getD downs j 0) * width + (col + getD rights j 0)
-    → CellsClear width dots table downs rights worths j row col n
-    → SwapsClear dots table (getD worths j (pos 0)) (cellAt width row col) to n
-    → CellsClear width dots table downs rights worths (j + 1) row col n
-cells-next width dots table downs rights worths j row col n to e r s =
-    record { each = λ i k h l. go i k (ℕ-discrete i j) (omega arith) l }
-  where
-    At : ℕ → ℕ → Type 0
-    At i k =
-        6 ≤ row + getD downs i 0
-        → 6 ≤ col + k + getD rights i 0
-        → Fails dots table (cellAt width row col + k)
-        (cellAt width (row + getD downs i 0 - 6) (col + k + getD rights i 0 - 6)) (getD worths i (pos 0))
+-- a run from the cell m on is clear at the offset of that code, its first partner standing at `to`
+pub record Clear (width m : ℕ) (dots : List ℕ) (table : List ℤ) (code : ℕ) (worth : ℤ) (n : ℕ) : Type 0 where
+  pub to : ℕ
+  pub place : to + (6 * width + 6) ≡ m + rowOf code * width + columnOf code
+  pub clear : SwapsClear dots table worth m to n
 
-    last : (k : ℕ) → k < n → At j k
-    last k l a b =
-        let y : ℕ = col + getD rights j 0 in
-        let turned : y + k ≡ col + k + getD rights j 0 = omega arith in
-        let there : to + k ≡ cellAt width (row + getD downs j 0 - 6) (col + k + getD rights j 0 - 6) =
-        there-is (row + getD downs j 0) y width k to a (omega arith) e
-        ∙ ap (λ z. (row + getD downs j 0 - 6) * width + (z - 6)) turned in
-        rw there at (s .each k l)
-
-    go : (i k : ℕ) → Dec (i ≡ j) → i ≤ j → k < n → At i k
-    go i k (no p) h l = r .each i k (omega arith) l
-    go i k (yes p) h l = subst (λ x. At x k) (sym p) (last k l)
+pub offset-clear : (width : ℕ) {dots : List ℕ} {table : List ℤ} (code : ℕ) {worth : ℤ} (row col : ℕ) {n : ℕ}
+    → Clear width (cellAt width row col) dots table code worth n → OffsetClear width dots table code worth row col n
+offset-clear width code row col s =
+    let rows = add-mul row (rowOf code) width in
+    let e = s .place in
+    record {
+      each = λ k h top first.
+          rw (there-is width (s .to) k (row + rowOf code) (col + columnOf code) (col + k + columnOf code) top first
+          (omega arith) (omega arith)) at (s .clear .each k h);
+    }

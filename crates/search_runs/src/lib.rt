@@ -2,20 +2,22 @@
 // in it. Where none is, the trials in order can be left out.
 ghost use mathlib.Core.Bool.{true, false};
 ghost use mathlib.Core.Path.{_≡_};
-ghost use Prim.Native.Nat.{ℕ, _+_, _*_, _<_, _≤_};
-ghost use lib.IntN.{pos, natAbs};
-ghost use lib.ListN.{length, getD};
-ghost use Rattle.model.specs.Error.{cellAt};
-ghost use Rattle.model.specs.Window.{Small, mostFiltered};
-ghost use Rattle.search_runs.specs.Run.{TogglesClear, SwapsClear, CellsClear};
+ghost use Prim.Native.Nat.{_+_, _*_, _<_, _≤_};
+ghost use lib.IntN.{natAbs};
+ghost use lib.ListN.{length};
+ghost use Rattle.model.specs.Error.{mostFiltered, mostCells};
+ghost use Rattle.invariants.specs.Plate.{cellOf};
+ghost use Rattle.invariants.specs.Window.{Small, mostKernel, mostWorth};
+ghost use Rattle.search_runs.specs.Run.{Tabled, TogglesClear, SwapsClear, CellsClear};
+use model::Cell;
 use search_change::difference;
 use search_change::signed;
-use search_partners::Cell;
+use slices::index;
 
 // whether a toggle is accepted at one of the n cells from `from` on
 pub fn any_toggles(peak: i32, dots: &[u8], table: &[i32], from: usize, n: usize) -> bool
     requires { ⌜ (from + n ≤ length (now dots)) × (from + n ≤ length (now table)) ⌝ }
-    requires { ⌜ (natAbs peak ≤ 1048576) × Small mostFiltered (now table) ⌝ }
+    requires { ⌜ (natAbs peak ≤ mostKernel) × Small mostFiltered (now table) ⌝ }
     ensures { λ r. ⌜ (r ≡ false → TogglesClear peak (now (dots .entry)) (now (table .entry)) from n) ⌝ }
 {
     let limit = 255 * peak;
@@ -33,9 +35,8 @@ pub fn any_toggles(peak: i32, dots: &[u8], table: &[i32], from: usize, n: usize)
 
 // whether a swap of one of the n cells from `from` on with the cell as far from `to` lowers the squared error
 fn any_swaps(dots: &[u8], table: &[i32], worth: i32, from: usize, to: usize, n: usize) -> bool
+    requires { ⌜ Tabled (now dots) (now table) × (natAbs worth ≤ mostWorth) × (n ≤ mostCells) ⌝ }
     requires { ⌜ (from + n ≤ length (now dots)) × (to + n ≤ length (now dots)) ⌝ }
-    requires { ⌜ (length (now table) ≡ length (now dots)) × Small mostFiltered (now table) ⌝ }
-    requires { ⌜ (natAbs worth ≤ 534773760) × (n ≤ 65536) ⌝ }
     ensures { λ r. ⌜ (r ≡ false → SwapsClear (now (dots .entry)) (now (table .entry)) worth from to n) ⌝ }
 {
     let mut hits: u32 = 0;
@@ -54,34 +55,30 @@ fn any_swaps(dots: &[u8], table: &[i32], worth: i32, from: usize, to: usize, n: 
     hits != 0
 }
 
-// Whether no swap of one of the n cells of a row from `cell` on, with a partner at one of the offsets, lowers the squared
+// Whether no swap of one of the n cells of a row from `at` on, with a partner at one of the offsets, lowers the squared
 // error. Where a run of partners is not whole on the plate it answers false.
 pub fn swaps_clear(
     width: usize,
-    downs: &[u8],
-    rights: &[u8],
+    codes: &[u8],
     worths: &[i32],
-    count: usize,
     dots: &[u8],
     table: &[i32],
-    cell: Cell,
+    at: Cell,
     n: usize,
 ) -> bool
-    requires { ⌜ (cell .row < 256) × (cell .col < 256) × (width ≤ 256) × (n ≤ 16) ⌝ }
-    requires { ⌜ cellAt width (cell .row) (cell .col) + n ≤ length (now dots) ⌝ }
-    requires { ⌜ (length (now table) ≡ length (now dots)) × Small mostFiltered (now table) ⌝ }
-    requires { ⌜ (count ≤ length (now downs)) × (count ≤ length (now rights)) × (count ≤ length (now worths)) ⌝ }
-    requires { ⌜ ((j : ℕ) → j < count → natAbs (getD (now worths) j (pos 0)) ≤ 534773760) ⌝ }
+    requires { ⌜ (at .row < 256) × (at .col < width) × (width ≤ 256) × (n ≤ 16) ⌝ }
+    requires { ⌜ Tabled (now dots) (now table) × (cellOf width at + n ≤ length (now dots)) ⌝ }
+    requires { ⌜ (length (now worths) ≡ length (now codes)) × Small mostWorth (now worths) ⌝ }
     ensures { λ r. ⌜ (r ≡ true → CellsClear width (now (dots .entry)) (now (table .entry))
-        (now (downs .entry)) (now (rights .entry)) (now (worths .entry)) count (cell .row) (cell .col) n) ⌝ }
+        (now (codes .entry)) (now (worths .entry)) (at .row) (at .col) n) ⌝ }
 {
-    let row = cell.row;
-    let col = cell.col;
-    let m = row * width + col;
+    let m = index(width, at);
     let back = 6 * width + 6;
-    let mut j: usize = 0;
-    while j < count {
-        let place = (row + downs[j] as usize) * width + (col + rights[j] as usize);
+    let mut j = codes.len();
+    while 0 < j {
+        j -= 1;
+        let code = codes[j];
+        let place = m + (code / 16) as usize * width + (code % 16) as usize;
         if place < back {
             return false;
         }
@@ -92,7 +89,6 @@ pub fn swaps_clear(
         if any_swaps(dots, table, worths[j], m, to, n) {
             return false;
         }
-        j += 1;
     }
     true
 }

@@ -1,4 +1,3 @@
 -- Laws that the proofs of this crate share.
 pub mod Partner
-pub mod Trials
 pub mod Clear

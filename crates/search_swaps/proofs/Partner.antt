@@ -15,19 +15,21 @@ use lib.ListN.{getD}
 use lib.Signed.{_≤ℤ_, leZ, ltZ}
 use Rattle.algebra.proofs.Order.{read≤, read<, show≡}
 use Rattle.algebra.proofs.Solver.{reify}
+use Rattle.model.specs.declared.Cell.{Cell}
+use Rattle.model.specs.declared.Measures.{Measures}
 use Rattle.model.specs.Basic.{pick, squareAt}
 use Rattle.model.specs.Change.{sign, swapSum, swap, lowers}
-use Rattle.model.specs.Error.{Target, targetOf, cellAt, filteredErrors}
-use Rattle.model.specs.Partners.{Offset, biased, inside, lands, partner, worthAt}
-use Rattle.model.specs.Refusal.{HalftoneFits}
+use Rattle.model.specs.Error.{Target, targetFor, cellAt}
+use Rattle.model.specs.Partners.{Offset, inside, lands, partner}
+use Rattle.invariants.specs.Partners.{biased, worthAt}
 use Rattle.model.specs.Scan.{suits}
-use Rattle.model.specs.Window.{HoldsKernel}
+use Rattle.invariants.specs.Plate.{Judged, OnPlate, cellOf}
+use Rattle.invariants.specs.Trials.{lowersAt, lowersBy}
+use Rattle.invariants.proofs.Plate.{swap-weighs}
 use Rattle.model.proofs.Partners.{lands-on}
 use Rattle.model.proofs.State.{below}
-use Rattle.search_swaps.specs.Trials.{takes}
 use Rattle.search_partners.proofs.Landing.{lands-is, partner-is}
 use Rattle.search_change.proofs.Signs.{multiple-sign}
-use Rattle.search_trial.proofs.Weighed.{swap-is}
 
 -- ---- along one coordinate: d - 6 on from place a
 inside-by : (limit a d : ℕ) → inside limit (pos a +ℤ (pos d -ℤ pos 6)) ≡ true → (6 ≤ a + d) × (a + d < limit + 6)
@@ -116,50 +118,58 @@ and-same : (a : Bool) {b c : Bool} → (a ≡ true → b ≡ c) → a && b ≡ a
 and-same true e = e refl
 and-same false e = refl
 
-module _ (w h r : ℕ) (psf gray dots : List ℕ) (n : ℕ) (f : HalftoneFits w h r psf gray dots n) (c : List ℤ)
-    (k : HoldsKernel r psf c) (row col : ℕ) (vertical : row < h) (across : col < w) (down right : ℕ) where
+module _ {m : Measures} {psf gray : List ℕ} {c : List ℤ} {dots : List ℕ} {table : List ℤ}
+    (j : Judged m psf gray c dots table) {at : Cell} (on : OnPlate m at) (down right : ℕ)
+    (l : lands (m .width) (m .height) (cellOf (m .width) at) (biased down right) ≡ true) where
   abbrev t : Target
-  t = targetOf w h r psf gray
+  t = targetFor m psf gray
 
   abbrev q : ℕ
-  q = cellAt w row col
+  q = cellOf (m .width) at
 
-  abbrev p : ℕ
-  p = partner w q (biased down right)
+  abbrev to : Cell
+  to = record { row = at .row + down - 6; col = at .col + right - 6 }
+
+  -- where it stands
+  stood : partner (m .width) q (biased down right) ≡ cellOf (m .width) to
+  stood = stands (m .width) (m .height) (at .row) (at .col) (on .col-below) down right l
+
+  pub partner-on : OnPlate m (record { row = at .row + down - 6; col = at .col + right - 6 })
+  partner-on =
+      let (y, x) = landed (m .width) (m .height) (at .row) (at .col) (on .col-below) down right l .1 in
+      record { row-below = y; col-below = x }
 
   -- the kernel at the offset is that between the cells
-  worth-is : 6 ≤ row + down → 6 ≤ col + right → worthAt r c down right
-      ≡ pos 255 *ℤ (squareAt (pos 0) (2 * r) c (pos 0) (pos 0)
-      -ℤ squareAt (pos 0) (2 * r) c (pos row -ℤ pos (row + down - 6)) (pos col -ℤ pos (col + right - 6)))
-  worth-is y x =
+  worth-is : worthAt (m .radius) c down right
+      ≡ pos 255 *ℤ (squareAt (pos 0) (2 * m .radius) c (pos 0) (pos 0)
+      -ℤ squareAt (pos 0) (2 * m .radius) c (pos (at .row) -ℤ pos (to .row)) (pos (at .col) -ℤ pos (to .col)))
+  worth-is =
+      let (y, x) = landed (m .width) (m .height) (at .row) (at .col) (on .col-below) down right l .0 in
       ap₂ (λ dy dx.
-      pos 255 *ℤ (squareAt (pos 0) (2 * r) c (pos 0) (pos 0) -ℤ squareAt (pos 0) (2 * r) c dy dx))
-      (sym (back row down y)) (sym (back col right x))
+      pos 255 *ℤ (squareAt (pos 0) (2 * m .radius) c (pos 0) (pos 0) -ℤ squareAt (pos 0) (2 * m .radius) c dy dx))
+      (sym (back (at .row) down y)) (sym (back (at .col) right x))
 
-  module _ {table : List ℤ} (e : table ≡ filteredErrors t dots) (l : lands w h q (biased down right) ≡ true) where
-    abbrev falls : ℕ → ℤ → Bool
-    falls i worth = ltZ (sign dots q *ℤ (getD table q (pos 0) -ℤ getD table i (pos 0)) +ℤ worth) (pos 0)
+  abbrev falls : ℕ → ℤ → Bool
+  falls i worth = ltZ (sign dots q *ℤ (getD table q (pos 0) -ℤ getD table i (pos 0)) +ℤ worth) (pos 0)
 
-    abbrev unlike : ℕ → Bool
-    unlike i = not (eqb (getD dots q 0) (getD dots i 0))
+  abbrev unlike : ℕ → Bool
+  unlike i = not (eqb (getD dots q 0) (getD dots i 0))
 
-    abbrev o : ℕ
-    o = cellAt w (row + down - 6) (col + right - 6)
+  falls-is : unlike (cellOf (m .width) to) ≡ true
+      → falls (cellOf (m .width) to) (worthAt (m .radius) c down right) ≡ lowers t dots (swap dots q (cellOf (m .width) to))
+  falls-is u =
+      ap (falls (cellOf (m .width) to)) worth-is
+      ∙ sum-sign _ _ (sign dots q) (getD table q (pos 0)) (getD table (cellOf (m .width) to) (pos 0))
+      ∙ ap (λ z. ltZ z (pos 0)) (swap-weighs j on partner-on (eqb-false _ _ (not-true _ u)))
 
-    falls-is : unlike o ≡ true → falls o (worthAt r c down right) ≡ lowers t dots (swap dots q o)
-    falls-is u =
-        let ((y, x), (y2, x2)) = landed w h row col across down right l in
-        ap (falls o) (worth-is y x)
-        ∙ sum-sign _ _ (sign dots q) (getD table q (pos 0)) (getD table o (pos 0))
-        ∙ ap (λ z. ltZ z (pos 0))
-        (swap-is w h r psf gray dots n f c k row col vertical across _ _ y2 x2 (eqb-false _ _ (not-true _ u)) e)
-
-    pub trial-is : {i : ℕ} {worth : ℤ} {answer : Bool} → i ≡ p → worth ≡ worthAt r c down right
-        → answer ≡ unlike i && falls i worth
-        → answer ≡ takes t dots q (biased down right)
-    trial-is u v d =
-        d
-        ∙ ap₂ (λ i worth. unlike i && falls i worth) (u ∙ stands w h row col across down right l) v
-        ∙ and-same (unlike o) falls-is
-        ∙ ap (λ i. unlike i && lowers t dots (swap dots q i)) (sym (stands w h row col across down right l))
-        ∙ ap (λ b. (b && unlike p) && lowers t dots (swap dots q p)) (sym l)
+  pub trial-is : {i : ℕ} {worth : ℤ} {answer : Bool} → i ≡ partner (m .width) (cellOf (m .width) at) (biased down right)
+      → worth ≡ worthAt (m .radius) c down right
+      → answer ≡ lowersBy dots table (cellOf (m .width) at) i worth
+      → answer ≡ lowersAt (targetFor m psf gray) dots (cellOf (m .width) at) (biased down right)
+  trial-is u v d =
+      d
+      ∙ ap₂ (λ i worth. unlike i && falls i worth) (u ∙ stood) v
+      ∙ and-same (unlike (cellOf (m .width) to)) falls-is
+      ∙ ap (λ i. unlike i && lowers t dots (swap dots q i)) (sym stood)
+      ∙ ap (λ b. (b && unlike (partner (m .width) q (biased down right)))
+      && lowers t dots (swap dots q (partner (m .width) q (biased down right)))) (sym l)

@@ -1,39 +1,38 @@
 // A swap scan of a judged plate whose kernel is c. A trial is decided by the table in a few operations, and cells where no
-// partner can lower the squared error are passed over. Where psf and gray are not read, they are there for the contract.
+// partner can lower the squared error are passed over.
 ghost use mathlib.Core.Bool.{true};
 ghost use mathlib.Core.Path.{_≡_};
 ghost use Prim.Native.Nat.{ℕ, _+_, _^_, _≤_, _<_};
 ghost use lib.ListN.{length, getD};
-ghost use Rattle.model.specs.Error.{targetFor, cellAt, filteredErrors};
-ghost use Rattle.model.specs.Window.{HoldsKernel};
-ghost use Rattle.model.specs.Refusal.{HalftoneFits};
-ghost use Rattle.model.specs.State.{LaterFits};
+ghost use Rattle.model.specs.Error.{targetFor};
 ghost use Rattle.model.specs.Reference.{reference};
-ghost use Rattle.model.specs.Partners.{biased, worthAt, HoldsOffsets, HoldsWorths};
-ghost use Rattle.model.specs.Scan.{swaps, swapsAfter, visit, sweep, progressOf};
+ghost use Rattle.model.specs.Scan.{swaps, sweep};
+ghost use Rattle.invariants.specs.Partners.{offsetOf, rowOf, columnOf, worthAt, HoldsOffsets, HoldsWorths};
+ghost use Rattle.invariants.specs.Plate.{Judged, Ready, OnPlate, cellOf, Leaves};
+ghost use Rattle.invariants.specs.Trials.{visit, performed, swapsAfter, lowersAt, Failed};
 ghost use Rattle.search_prune.specs.Grid.{GridFits};
-ghost use Rattle.search_swaps.specs.Trials.{takes, Failed};
+use model::Cell;
 use model::Measures;
 use model::Progress;
 use model::Stats;
 use search_change::lower_swap;
 use search_offsets::within_reach;
-use search_partners::Cell;
 use search_partners::ahead;
 use search_partners::next;
 use search_partners::partner_cell;
 use search_partners::weigh_offsets;
+use search_prune::grid_size;
 use search_prune::lay_worths;
 use search_prune::may_lower;
-use search_prune::side_of;
 use search_runs::swaps_clear;
-use search_toggles::least;
 use search_toggles::run_end;
-use search_trial::make_swap;
-use search_trial::weigh_swap;
+use search_trial::advance;
+use search_trial::swap;
+use slices::index;
+use slices::least;
 
-// One trial of a swap scan: whether the partner at that offset, each coordinate with 6 added, suits and the swap with
-// it lowers the squared error; `worth` is 255 × (P - c) of the offset.
+// One trial of a swap scan: whether the partner at the offset of that code suits and the swap with it lowers the squared
+// error; `worth` is 255 × (P - c) of the offset.
 fn lowering(
     measures: Measures,
     psf: &[u8],
@@ -42,22 +41,16 @@ fn lowering(
     dots: &[u8],
     table: &[i32],
     at: Cell,
-    down: u8,
-    right: u8,
+    code: u8,
     worth: i32,
 ) -> bool
-    requires { ⌜ HalftoneFits (measures .width) (measures .height) (measures .radius) (now psf) (now gray) (now dots)
-        (length (now table)) ⌝ }
-    requires { ⌜ now table ≡ filteredErrors (targetFor measures (now psf) (now gray)) (now dots) ⌝ }
-    requires { ⌜ HoldsKernel (measures .radius) (now psf) (now c) ⌝ }
-    requires { ⌜ (at .row < measures .height) × (at .col < measures .width) ⌝ }
-    requires { ⌜ worth ≡ worthAt (measures .radius) (now c) down right ⌝ }
-    ensures { λ r. ⌜ (let t = targetFor measures (now (psf .entry)) (now (gray .entry)) in
-        let m = cellAt (measures .width) (at .row) (at .col) in
-        r ≡ takes t (now (dots .entry)) m (biased down right)) ⌝ }
+    requires { ⌜ Judged measures (now psf) (now gray) (now c) (now dots) (now table) × OnPlate measures at ⌝ }
+    requires { ⌜ worth ≡ worthAt (measures .radius) (now c) (rowOf code) (columnOf code) ⌝ }
+    ensures { λ r. ⌜ r ≡ lowersAt (targetFor measures (now (psf .entry)) (now (gray .entry))) (now (dots .entry))
+        (cellOf (measures .width) at) (offsetOf code) ⌝ }
 {
-    let m = at.row * measures.width + at.col;
-    let n = partner_cell(measures.width, measures.height, at, down, right);
+    let m = index(measures.width, at);
+    let n = partner_cell(measures.width, measures.height, at, code);
     if table.len() <= n {
         return false;
     }
@@ -72,27 +65,20 @@ fn clear_swaps(
     psf: &[u8],
     gray: &[u8],
     c: &[i32],
-    downs: &[u8],
-    rights: &[u8],
+    codes: &[u8],
     worths: &[i32],
-    count: usize,
     dots: &[u8],
     table: &[i32],
     at: Cell,
     tested: usize,
 ) -> usize
-    requires { ⌜ HalftoneFits (measures .width) (measures .height) (measures .radius) (now psf) (now gray) (now dots)
-        (length (now table)) ⌝ }
-    requires { ⌜ now table ≡ filteredErrors (targetFor measures (now psf) (now gray)) (now dots) ⌝ }
-    requires { ⌜ HoldsKernel (measures .radius) (now psf) (now c) ⌝ }
-    requires { ⌜ HoldsOffsets (measures .reach) (now downs) (now rights) count ⌝ }
-    requires { ⌜ HoldsWorths (measures .radius) (now c) (now downs) (now rights) count (now worths) ⌝ }
-    requires { ⌜ (at .row < measures .height) × (at .col < measures .width) ⌝ }
-    ensures { λ r. ⌜ (let t = targetFor measures (now (psf .entry)) (now (gray .entry)) in
-        (at .col + r ≤ measures .width) × ((k : ℕ) → k < r
-        → Failed t (measures .reach) (now (dots .entry)) (cellAt (measures .width) (at .row) (at .col) + k) count)) ⌝ }
+    requires { ⌜ Judged measures (now psf) (now gray) (now c) (now dots) (now table) × OnPlate measures at ⌝ }
+    requires { ⌜ HoldsOffsets (measures .reach) (now codes) × HoldsWorths (measures .radius) (now c) (now codes) (now worths) ⌝ }
+    ensures { λ r. ⌜ (at .col + r ≤ measures .width) × ((k : ℕ) → k < r
+        → Failed (targetFor measures (now (psf .entry)) (now (gray .entry))) (measures .reach) (now (dots .entry))
+        (cellOf (measures .width) at + k) (length (now (codes .entry)))) ⌝ }
 {
-    let m = at.row * measures.width + at.col;
+    let m = index(measures.width, at);
     if m < tested {
         return 0;
     }
@@ -100,17 +86,7 @@ fn clear_swaps(
         return 0;
     }
     let n = least(16, measures.width - at.col);
-    if swaps_clear(
-        measures.width,
-        downs,
-        rights,
-        worths,
-        count,
-        dots,
-        table,
-        at,
-        n,
-    ) {
+    if swaps_clear(measures.width, codes, worths, dots, table, at, n) {
         return n;
     }
     0
@@ -122,32 +98,30 @@ fn first_trial(
     psf: &[u8],
     gray: &[u8],
     c: &[i32],
-    downs: &[u8],
-    rights: &[u8],
-    count: usize,
-    side: usize,
+    codes: &[u8],
     grid: &[i32],
     dots: &[u8],
     table: &[i32],
     at: Cell,
 ) -> usize
-    requires { ⌜ HalftoneFits (measures .width) (measures .height) (measures .radius) (now psf) (now gray) (now dots)
-        (length (now table)) ⌝ }
-    requires { ⌜ now table ≡ filteredErrors (targetFor measures (now psf) (now gray)) (now dots) ⌝ }
-    requires { ⌜ HoldsKernel (measures .radius) (now psf) (now c) ⌝ }
-    requires { ⌜ HoldsOffsets (measures .reach) (now downs) (now rights) count ⌝ }
-    requires { ⌜ GridFits (measures .radius) (now c) (measures .reach) side (now grid) ⌝ }
-    requires { ⌜ (at .row < measures .height) × (at .col < measures .width) ⌝ }
-    ensures { λ r. ⌜ (let t = targetFor measures (now (psf .entry)) (now (gray .entry)) in
-        (r ≤ count)
-        × Failed t (measures .reach) (now (dots .entry)) (cellAt (measures .width) (at .row) (at .col)) r) ⌝ }
+    requires { ⌜ Judged measures (now psf) (now gray) (now c) (now dots) (now table) × OnPlate measures at ⌝ }
+    requires { ⌜ HoldsOffsets (measures .reach) (now codes) × GridFits (measures .radius) (now c) (measures .reach) (now grid) ⌝ }
+    ensures { λ r. ⌜ (r ≤ length (now (codes .entry)))
+        × Failed (targetFor measures (now (psf .entry)) (now (gray .entry))) (measures .reach) (now (dots .entry))
+        (cellOf (measures .width) at) r ⌝ }
 {
-    let width = measures.width;
-    let height = measures.height;
-    if may_lower(width, height, measures.reach, side, grid, dots, table, at) {
+    if may_lower(
+        measures.width,
+        measures.height,
+        measures.reach,
+        grid,
+        dots,
+        table,
+        at,
+    ) {
         return 0;
     }
-    count
+    codes.len()
 }
 
 // The swap of a cell with the partner found, if one was.
@@ -156,67 +130,31 @@ fn swap_cell(
     psf: &[u8],
     gray: &[u8],
     c: &[i32],
-    downs: &[u8],
-    rights: &[u8],
-    count: usize,
+    codes: &[u8],
     dots: &mut [u8],
     table: &mut [i32],
     progress: Progress,
     at: Cell,
     found: usize,
 ) -> Progress
-    requires { ⌜ LaterFits measures (now psf) (now gray) (now dots) (now table) (progress .stats) ⌝ }
-    requires { ⌜ HoldsKernel (measures .radius) (now psf) (now c) ⌝ }
-    requires { ⌜ HoldsOffsets (measures .reach) (now downs) (now rights) count ⌝ }
-    requires { ⌜ (at .row < measures .height) × (at .col < measures .width) × (progress .changes < 2 ^ 63) ⌝ }
-    requires { ⌜ (found ≤ count) × (found < count → takes (targetFor measures (now psf) (now gray)) (now dots)
-        (cellAt (measures .width) (at .row) (at .col))
-        (biased (getD (now downs) found 0) (getD (now rights) found 0)) ≡ true) ⌝ }
+    requires { ⌜ Ready measures (now psf) (now gray) (now c) (now dots) (now table) (progress .stats) ⌝ }
+    requires { ⌜ OnPlate measures at × (progress .changes < 2 ^ 63) × HoldsOffsets (measures .reach) (now codes) ⌝ }
+    requires { ⌜ (found < length (now codes) → lowersAt (targetFor measures (now psf) (now gray)) (now dots)
+        (cellOf (measures .width) at) (offsetOf (getD (now codes) found 0)) ≡ true) ⌝ }
     ensures { λ r. ⌜ (let t = targetFor measures (now (psf .entry)) (now (gray .entry)) in
-        r ≡ progressOf t (visit t (swapsAfter t (measures .reach) found) (now (dots .entry)) progress
-        (cellAt (measures .width) (at .row) (at .col)))) ⌝ }
-    ensures { λ _. ⌜ (let t = targetFor measures (now (psf .entry)) (now (gray .entry)) in
-        now (dots .exit) ≡ visit t (swapsAfter t (measures .reach) found) (now (dots .entry)) progress
-        (cellAt (measures .width) (at .row) (at .col)) .after .dots) ⌝ }
-    ensures { λ _. ⌜ (let t = targetFor measures (now (psf .entry)) (now (gray .entry)) in
-        now (table .exit) ≡ filteredErrors t (visit t (swapsAfter t (measures .reach) found) (now (dots .entry))
-        progress (cellAt (measures .width) (at .row) (at .col)) .after .dots)) ⌝ }
+        Leaves t (performed t (visit t (swapsAfter t (measures .reach) found) (now (dots .entry)) progress
+        (cellOf (measures .width) at))) r (now (dots .exit)) (now (table .exit))) ⌝ }
 {
-    if count <= found {
+    if codes.len() <= found {
         return progress;
     }
-    let row2 = at.row + downs[found] as usize - 6;
-    let col2 = at.col + rights[found] as usize - 6;
-    let delta = weigh_swap(
-        measures,
-        psf,
-        gray,
-        c,
-        dots,
-        table,
-        at.row,
-        at.col,
-        row2,
-        col2,
-    );
-    let stats = make_swap(
-        measures,
-        psf,
-        gray,
-        c,
-        dots,
-        table,
-        progress.stats,
-        at.row,
-        at.col,
-        row2,
-        col2,
-        delta,
-    );
-    Progress {
-        stats: stats,
-        changes: progress.changes + 1,
-    }
+    let code = codes[found];
+    let to = Cell {
+        row: at.row + (code / 16) as usize - 6,
+        col: at.col + (code % 16) as usize - 6,
+    };
+    let answer = swap(measures, psf, gray, c, dots, table, progress.stats, at, to);
+    advance(progress, answer)
 }
 
 // A swap scan with the offsets within reach and what they are worth: at each cell the partners in order, up to the
@@ -226,28 +164,19 @@ fn swap_by(
     psf: &[u8],
     gray: &[u8],
     c: &[i32],
-    downs: &[u8],
-    rights: &[u8],
+    codes: &[u8],
     worths: &[i32],
-    count: usize,
-    side: usize,
     grid: &[i32],
     dots: &mut [u8],
     table: &mut [i32],
     stats: Stats,
 ) -> Progress
-    requires { ⌜ LaterFits measures (now psf) (now gray) (now dots) (now table) stats ⌝ }
-    requires { ⌜ HoldsKernel (measures .radius) (now psf) (now c) ⌝ }
-    requires { ⌜ HoldsOffsets (measures .reach) (now downs) (now rights) count ⌝ }
-    requires { ⌜ HoldsWorths (measures .radius) (now c) (now downs) (now rights) count (now worths) ⌝ }
-    requires { ⌜ GridFits (measures .radius) (now c) (measures .reach) side (now grid) ⌝ }
+    requires { ⌜ Ready measures (now psf) (now gray) (now c) (now dots) (now table) stats ⌝ }
+    requires { ⌜ HoldsOffsets (measures .reach) (now codes) × HoldsWorths (measures .radius) (now c) (now codes) (now worths)
+        × GridFits (measures .radius) (now c) (measures .reach) (now grid) ⌝ }
     ensures { λ r. ⌜ (let t = targetFor measures (now (psf .entry)) (now (gray .entry)) in
-        r ≡ progressOf t (sweep t (swaps t (measures .reach)) (reference (now (dots .entry)) stats))) ⌝ }
-    ensures { λ _. ⌜ (let t = targetFor measures (now (psf .entry)) (now (gray .entry)) in
-        now (dots .exit) ≡ sweep t (swaps t (measures .reach)) (reference (now (dots .entry)) stats) .after .dots) ⌝ }
-    ensures { λ _. ⌜ (let t = targetFor measures (now (psf .entry)) (now (gray .entry)) in
-        now (table .exit) ≡ filteredErrors t
-        (sweep t (swaps t (measures .reach)) (reference (now (dots .entry)) stats) .after .dots)) ⌝ }
+        Leaves t (performed t (sweep t (swaps t (measures .reach)) (reference (now (dots .entry)) stats)))
+        r (now (dots .exit)) (now (table .exit))) ⌝ }
 {
     let mut progress = Progress {
         stats: stats,
@@ -261,10 +190,8 @@ fn swap_by(
             psf,
             gray,
             c,
-            downs,
-            rights,
+            codes,
             worths,
-            count,
             dots,
             table,
             at,
@@ -274,36 +201,12 @@ fn swap_by(
             at = ahead(measures.width, at, n);
         } else {
             tested = run_end(measures.width, at, tested);
-            let mut k = first_trial(
-                measures,
-                psf,
-                gray,
-                c,
-                downs,
-                rights,
-                count,
-                side,
-                grid,
-                dots,
-                table,
-                at,
-            );
+            let mut k = first_trial(measures, psf, gray, c, codes, grid, dots, table, at);
             let found = 'partners: loop {
-                if count <= k {
+                if codes.len() <= k {
                     break 'partners k;
                 }
-                if lowering(
-                    measures,
-                    psf,
-                    gray,
-                    c,
-                    dots,
-                    table,
-                    at,
-                    downs[k],
-                    rights[k],
-                    worths[k],
-                ) {
+                if lowering(measures, psf, gray, c, dots, table, at, codes[k], worths[k]) {
                     break 'partners k;
                 }
                 k += 1;
@@ -313,9 +216,7 @@ fn swap_by(
                 psf,
                 gray,
                 c,
-                downs,
-                rights,
-                count,
+                codes,
                 dots,
                 table,
                 progress,
@@ -338,35 +239,26 @@ pub fn swap_all(
     table: &mut [i32],
     stats: Stats,
 ) -> Progress
-    requires { ⌜ LaterFits measures (now psf) (now gray) (now dots) (now table) stats ⌝ }
-    requires { ⌜ HoldsKernel (measures .radius) (now psf) (now c) ⌝ }
+    requires { ⌜ Ready measures (now psf) (now gray) (now c) (now dots) (now table) stats ⌝ }
     ensures { λ r. ⌜ (let t = targetFor measures (now (psf .entry)) (now (gray .entry)) in
-        r ≡ progressOf t (sweep t (swaps t (measures .reach)) (reference (now (dots .entry)) stats))) ⌝ }
-    ensures { λ _. ⌜ (let t = targetFor measures (now (psf .entry)) (now (gray .entry)) in
-        now (dots .exit) ≡ sweep t (swaps t (measures .reach)) (reference (now (dots .entry)) stats) .after .dots) ⌝ }
-    ensures { λ _. ⌜ (let t = targetFor measures (now (psf .entry)) (now (gray .entry)) in
-        now (table .exit) ≡ filteredErrors t
-        (sweep t (swaps t (measures .reach)) (reference (now (dots .entry)) stats) .after .dots)) ⌝ }
+        Leaves t (performed t (sweep t (swaps t (measures .reach)) (reference (now (dots .entry)) stats)))
+        r (now (dots .exit)) (now (table .exit))) ⌝ }
 {
-    let mut downs = [0u8; 168];
-    let mut rights = [0u8; 168];
+    let mut codes = [0u8; 168];
     let mut worths = [0i32; 168];
-    let count = within_reach(measures.reach, &mut downs, &mut rights);
-    weigh_offsets(measures.radius, c, &downs, &rights, count, &mut worths);
-    let side = side_of(measures.reach);
     let mut grid = [0i32; 208];
-    lay_worths(measures.radius, c, measures.reach, side, &mut grid);
+    let count = within_reach(measures.reach, &mut codes);
+    weigh_offsets(measures.radius, c, &codes[..count], &mut worths[..count]);
+    let n = grid_size(measures.reach);
+    lay_worths(measures.radius, c, measures.reach, &mut grid[..n]);
     swap_by(
         measures,
         psf,
         gray,
         c,
-        &downs,
-        &rights,
-        &worths,
-        count,
-        side,
-        &grid,
+        &codes[..count],
+        &worths[..count],
+        &grid[..n],
         dots,
         table,
         stats,

@@ -1,33 +1,26 @@
-// A toggle scan of a judged plate whose kernel is c. Runs of cells where no toggle is accepted are passed over. Where psf
-// and gray are not read, they are there for the contract.
+// A toggle scan of a judged plate whose kernel is c. Runs of cells where no toggle is accepted are passed over.
 ghost use mathlib.Core.Bool.{false};
 ghost use mathlib.Core.Path.{_≡_};
-ghost use Prim.Native.Nat.{ℕ, _+_, _^_, _≤_, _<_, min};
-ghost use lib.ListN.{length};
-ghost use Rattle.model.specs.Error.{targetFor, cellAt, filteredErrors};
-ghost use Rattle.model.specs.Window.{HoldsKernel};
-ghost use Rattle.model.specs.Refusal.{HalftoneFits};
-ghost use Rattle.model.specs.State.{LaterFits};
+ghost use Prim.Native.Nat.{ℕ, _+_, _^_, _≤_, _<_};
+ghost use Rattle.model.specs.Change as Change;
+ghost use Rattle.model.specs.Change.{lowers};
+ghost use Rattle.model.specs.Error.{targetFor};
 ghost use Rattle.model.specs.Reference.{reference};
-ghost use Rattle.model.specs.Scan.{toggles, visit, sweep, progressOf};
-ghost use Rattle.model.specs.Change.{toggle, lowers};
+ghost use Rattle.model.specs.Scan.{toggles, sweep};
+ghost use Rattle.invariants.specs.Plate.{Judged, Ready, OnPlate, cellOf, Leaves};
+ghost use Rattle.invariants.specs.Trials.{visit, performed};
+use model::Cell;
 use model::Measures;
 use model::Progress;
 use model::Stats;
-use search_change::lowers as is_lower;
 use search_change::peak;
-use search_partners::Cell;
 use search_partners::ahead;
 use search_partners::next;
 use search_runs::any_toggles;
-use search_trial::make_toggle;
-use search_trial::weigh_toggle;
-
-pub fn least(a: usize, b: usize) -> usize
-    ensures { λ r. ⌜ r ≡ min a b ⌝ }
-{
-    if a < b { a } else { b }
-}
+use search_trial::advance;
+use search_trial::toggle;
+use slices::index;
+use slices::least;
 
 // a toggle scan at one cell
 fn toggle_cell(
@@ -40,40 +33,14 @@ fn toggle_cell(
     progress: Progress,
     at: Cell,
 ) -> Progress
-    requires { ⌜ LaterFits measures (now psf) (now gray) (now dots) (now table) (progress .stats) ⌝ }
-    requires { ⌜ HoldsKernel (measures .radius) (now psf) (now c) ⌝ }
-    requires { ⌜ (at .row < measures .height) × (at .col < measures .width) × (progress .changes < 2 ^ 63) ⌝ }
+    requires { ⌜ Ready measures (now psf) (now gray) (now c) (now dots) (now table) (progress .stats) ⌝ }
+    requires { ⌜ OnPlate measures at × (progress .changes < 2 ^ 63) ⌝ }
     ensures { λ r. ⌜ (let t = targetFor measures (now (psf .entry)) (now (gray .entry)) in
-        r ≡ progressOf t (visit t (toggles t) (now (dots .entry)) progress
-        (cellAt (measures .width) (at .row) (at .col)))) ⌝ }
-    ensures { λ _. ⌜ (let t = targetFor measures (now (psf .entry)) (now (gray .entry)) in
-        now (dots .exit) ≡ visit t (toggles t) (now (dots .entry)) progress
-        (cellAt (measures .width) (at .row) (at .col)) .after .dots) ⌝ }
-    ensures { λ _. ⌜ (let t = targetFor measures (now (psf .entry)) (now (gray .entry)) in
-        now (table .exit) ≡ filteredErrors t (visit t (toggles t) (now (dots .entry)) progress
-        (cellAt (measures .width) (at .row) (at .col)) .after .dots)) ⌝ }
+        Leaves t (performed t (visit t (toggles t) (now (dots .entry)) progress (cellOf (measures .width) at)))
+        r (now (dots .exit)) (now (table .exit))) ⌝ }
 {
-    let m = at.row * measures.width + at.col;
-    let delta = weigh_toggle(measures, psf, gray, c, dots, table, m);
-    if is_lower(delta) {
-        let stats = make_toggle(
-            measures,
-            psf,
-            gray,
-            c,
-            dots,
-            table,
-            progress.stats,
-            at.row,
-            at.col,
-            delta,
-        );
-        return Progress {
-            stats: stats,
-            changes: progress.changes + 1,
-        };
-    }
-    progress
+    let answer = toggle(measures, psf, gray, c, dots, table, progress.stats, at);
+    advance(progress, answer)
 }
 
 // How many cells from here on can be passed over, a toggle being accepted at none: a run of up to 16 in this row, or 0
@@ -88,16 +55,12 @@ fn clear_run(
     at: Cell,
     tested: usize,
 ) -> usize
-    requires { ⌜ HalftoneFits (measures .width) (measures .height) (measures .radius) (now psf) (now gray) (now dots)
-        (length (now table)) ⌝ }
-    requires { ⌜ now table ≡ filteredErrors (targetFor measures (now psf) (now gray)) (now dots) ⌝ }
-    requires { ⌜ HoldsKernel (measures .radius) (now psf) (now c) ⌝ }
-    requires { ⌜ (at .row < measures .height) × (at .col < measures .width) ⌝ }
+    requires { ⌜ Judged measures (now psf) (now gray) (now c) (now dots) (now table) × OnPlate measures at ⌝ }
     ensures { λ r. ⌜ (at .col + r ≤ measures .width) × ((k : ℕ) → k < r
         → lowers (targetFor measures (now (psf .entry)) (now (gray .entry))) (now (dots .entry))
-        (toggle (now (dots .entry)) (cellAt (measures .width) (at .row) (at .col) + k)) ≡ false) ⌝ }
+        (Change.toggle (now (dots .entry)) (cellOf (measures .width) at + k)) ≡ false) ⌝ }
 {
-    let m = at.row * measures.width + at.col;
+    let m = index(measures.width, at);
     if m < tested {
         return 0;
     }
@@ -112,7 +75,7 @@ fn clear_run(
 pub fn run_end(width: usize, at: Cell, tested: usize) -> usize
     requires { ⌜ (at .row < 256) × (at .col < width) × (width ≤ 256) ⌝ }
 {
-    let m = at.row * width + at.col;
+    let m = index(width, at);
     if m < tested {
         return tested;
     }
@@ -129,15 +92,10 @@ pub fn toggle_all(
     table: &mut [i32],
     stats: Stats,
 ) -> Progress
-    requires { ⌜ LaterFits measures (now psf) (now gray) (now dots) (now table) stats ⌝ }
-    requires { ⌜ HoldsKernel (measures .radius) (now psf) (now c) ⌝ }
+    requires { ⌜ Ready measures (now psf) (now gray) (now c) (now dots) (now table) stats ⌝ }
     ensures { λ r. ⌜ (let t = targetFor measures (now (psf .entry)) (now (gray .entry)) in
-        r ≡ progressOf t (sweep t (toggles t) (reference (now (dots .entry)) stats))) ⌝ }
-    ensures { λ _. ⌜ (let t = targetFor measures (now (psf .entry)) (now (gray .entry)) in
-        now (dots .exit) ≡ sweep t (toggles t) (reference (now (dots .entry)) stats) .after .dots) ⌝ }
-    ensures { λ _. ⌜ (let t = targetFor measures (now (psf .entry)) (now (gray .entry)) in
-        now (table .exit) ≡ filteredErrors t
-        (sweep t (toggles t) (reference (now (dots .entry)) stats) .after .dots)) ⌝ }
+        Leaves t (performed t (sweep t (toggles t) (reference (now (dots .entry)) stats)))
+        r (now (dots .exit)) (now (table .exit))) ⌝ }
 {
     let mut progress = Progress {
         stats: stats,

@@ -1,19 +1,16 @@
-// A change of a judged plate whose kernel is c: weighed by the table, and made where it lowers the squared error. Where
-// psf and gray are not read, they are there for the contract.
+// A change of a judged plate whose kernel is c: weighed by the table, and made where it lowers the squared error.
 ghost use mathlib.Core.Path.{_≡_};
-ghost use Prim.Native.Nat.{_*_, _^_, _≤_, _<_};
-ghost use lib.IntN.{natAbs};
-ghost use lib.ListN.{length, getD};
-ghost use Rattle.model.specs.Window.{HoldsKernel};
-ghost use Rattle.model.specs.Error.{targetFor, cellAt, filteredErrors};
-ghost use Rattle.model.specs.Refusal.{HalftoneFits};
-ghost use Rattle.model.specs.State.{LaterFits};
-ghost use Rattle.model.specs.Reference.{reference, statsOf};
-ghost use Rattle.model.specs.Change as Change;
-ghost use Rattle.model.specs.Calls.{result, attempted, toggled, swapped, afterToggle, afterSwap};
-ghost use Rattle.model.specs.Change.{change};
+ghost use Prim.Native.Nat.{_^_, _<_};
+ghost use Rattle.model.specs.Error.{targetFor};
+ghost use Rattle.model.specs.Reference.{reference, attempt};
+ghost use Rattle.model.specs.Calls.{attempted};
+ghost use Rattle.invariants.specs.Plate.{Judged, Ready, OnPlate, toggleAt, swapAt, Unlike};
+ghost use Rattle.invariants.specs.Plate.{Weighs, Leaves, accepting, replied};
+ghost use Rattle.invariants.specs.Trials.{advanced};
 use model::Attempt;
+use model::Cell;
 use model::Measures;
+use model::Progress;
 use model::Stats;
 use search_change::between;
 use search_change::lowers;
@@ -22,63 +19,55 @@ use search_change::swap_change;
 use search_change::toggle_change;
 use search_make::count_swap;
 use search_make::count_toggle;
-use search_make::flip;
+use search_make::store;
+use slices::index;
 
-// what a toggle of the cell m would add to the squared error
-pub fn weigh_toggle(
+// what a toggle of a cell would add to the squared error
+fn weigh_toggle(
     measures: Measures,
     psf: &[u8],
     gray: &[u8],
     c: &[i32],
     dots: &[u8],
     table: &[i32],
-    m: usize,
+    at: Cell,
 ) -> i64
-    requires { ⌜ HalftoneFits (measures .width) (measures .height) (measures .radius) (now psf) (now gray) (now dots)
-        (length (now table)) ⌝ }
-    requires { ⌜ now table ≡ filteredErrors (targetFor measures (now psf) (now gray)) (now dots) ⌝ }
-    requires { ⌜ HoldsKernel (measures .radius) (now psf) (now c) ⌝ }
-    requires { ⌜ m < measures .height * measures .width ⌝ }
-    ensures { λ r. ⌜ r ≡ change (targetFor measures (now (psf .entry)) (now (gray .entry))) (now (dots .entry))
-        (Change.toggle (now (dots .entry)) m) ⌝ }
-    ensures { λ r. ⌜ natAbs r ≤ 2 ^ 50 ⌝ }
+    requires { ⌜ Judged measures (now psf) (now gray) (now c) (now dots) (now table) × OnPlate measures at ⌝ }
+    ensures { λ r. ⌜ Weighs (targetFor measures (now (psf .entry)) (now (gray .entry))) (now (dots .entry))
+        (toggleAt measures (now (dots .entry)) at) r ⌝ }
 {
-    toggle_change(peak(measures.radius, c), dots, table, m)
+    toggle_change(
+        peak(measures.radius, c),
+        dots,
+        table,
+        index(measures.width, at),
+    )
 }
 
 // what a swap of two cells, their dots unlike, would add to it
-pub fn weigh_swap(
+fn weigh_swap(
     measures: Measures,
     psf: &[u8],
     gray: &[u8],
     c: &[i32],
     dots: &[u8],
     table: &[i32],
-    row: usize,
-    col: usize,
-    row2: usize,
-    col2: usize,
+    at: Cell,
+    to: Cell,
 ) -> i64
-    requires { ⌜ HalftoneFits (measures .width) (measures .height) (measures .radius) (now psf) (now gray) (now dots)
-        (length (now table)) ⌝ }
-    requires { ⌜ now table ≡ filteredErrors (targetFor measures (now psf) (now gray)) (now dots) ⌝ }
-    requires { ⌜ HoldsKernel (measures .radius) (now psf) (now c) ⌝ }
-    requires { ⌜ (row < measures .height) × (col < measures .width) ⌝ }
-    requires { ⌜ (row2 < measures .height) × (col2 < measures .width) ⌝ }
-    requires { ⌜ (getD (now dots) (cellAt (measures .width) row col) 0
-        ≡ getD (now dots) (cellAt (measures .width) row2 col2) 0 → ⊥) ⌝ }
-    ensures { λ r. ⌜ r ≡ change (targetFor measures (now (psf .entry)) (now (gray .entry))) (now (dots .entry))
-        (Change.swap (now (dots .entry)) (cellAt (measures .width) row col) (cellAt (measures .width) row2 col2)) ⌝ }
-    ensures { λ r. ⌜ natAbs r ≤ 2 ^ 50 ⌝ }
+    requires { ⌜ Judged measures (now psf) (now gray) (now c) (now dots) (now table) ⌝ }
+    requires { ⌜ OnPlate measures at × OnPlate measures to × Unlike measures (now dots) at to ⌝ }
+    ensures { λ r. ⌜ Weighs (targetFor measures (now (psf .entry)) (now (gray .entry))) (now (dots .entry))
+        (swapAt measures (now (dots .entry)) at to) r ⌝ }
 {
-    let m = row * measures.width + col;
-    let n = row2 * measures.width + col2;
-    let apart = between(measures.radius, c, row, col, row2, col2);
+    let m = index(measures.width, at);
+    let n = index(measures.width, to);
+    let apart = between(measures.radius, c, at, to);
     swap_change(peak(measures.radius, c), apart, dots, table, m, n)
 }
 
 // A toggle is made: dots, table and ledger follow.
-pub fn make_toggle(
+fn make_toggle(
     measures: Measures,
     psf: &[u8],
     gray: &[u8],
@@ -86,43 +75,22 @@ pub fn make_toggle(
     dots: &mut [u8],
     table: &mut [i32],
     stats: Stats,
-    row: usize,
-    col: usize,
+    at: Cell,
     delta: i64,
 ) -> Stats
-    requires { ⌜ LaterFits measures (now psf) (now gray) (now dots) (now table) stats ⌝ }
-    requires { ⌜ HoldsKernel (measures .radius) (now psf) (now c) ⌝ }
-    requires { ⌜ (row < measures .height) × (col < measures .width) ⌝ }
-    requires { ⌜ delta ≡ change (targetFor measures (now psf) (now gray)) (now dots)
-        (Change.toggle (now dots) (cellAt (measures .width) row col)) ⌝ }
-    requires { ⌜ natAbs delta ≤ 2 ^ 50 ⌝ }
-    ensures { λ r. ⌜ r ≡ statsOf (targetFor measures (now (psf .entry)) (now (gray .entry)))
-        (afterToggle measures (now (psf .entry)) (now (gray .entry))
-        (reference (now (dots .entry)) stats) row col) ⌝ }
-    ensures { λ _. ⌜ now (dots .exit)
-        ≡ afterToggle measures (now (psf .entry)) (now (gray .entry))
-        (reference (now (dots .entry)) stats) row col .dots ⌝ }
-    ensures { λ _. ⌜ now (table .exit) ≡ filteredErrors (targetFor measures (now (psf .entry)) (now (gray .entry)))
-        (afterToggle measures (now (psf .entry)) (now (gray .entry))
-        (reference (now (dots .entry)) stats) row col .dots) ⌝ }
+    requires { ⌜ Ready measures (now psf) (now gray) (now c) (now dots) (now table) stats × OnPlate measures at ⌝ }
+    requires { ⌜ Weighs (targetFor measures (now psf) (now gray)) (now dots) (toggleAt measures (now dots) at) delta ⌝ }
+    ensures { λ r. ⌜ (let t = targetFor measures (now (psf .entry)) (now (gray .entry)) in
+        Leaves t (accepting t (reference (now (dots .entry)) stats) (toggleAt measures (now (dots .entry)) at))
+        r (now (dots .exit)) (now (table .exit))) ⌝ }
 {
-    let m = row * measures.width + col;
-    let counted = count_toggle(stats, delta, dots[m]);
-    flip(
-        measures.width,
-        measures.height,
-        measures.radius,
-        c,
-        dots,
-        table,
-        row,
-        col,
-    );
-    counted
+    let dot = dots[index(measures.width, at)];
+    store(measures, psf, gray, c, dots, table, at, 1 - dot);
+    count_toggle(stats, delta, dot)
 }
 
-// A swap of unlike dots is made.
-pub fn make_swap(
+// A swap is made: each cell gets the other's byte.
+fn make_swap(
     measures: Measures,
     psf: &[u8],
     gray: &[u8],
@@ -130,40 +98,25 @@ pub fn make_swap(
     dots: &mut [u8],
     table: &mut [i32],
     stats: Stats,
-    row: usize,
-    col: usize,
-    row2: usize,
-    col2: usize,
+    at: Cell,
+    to: Cell,
     delta: i64,
 ) -> Stats
-    requires { ⌜ LaterFits measures (now psf) (now gray) (now dots) (now table) stats ⌝ }
-    requires { ⌜ HoldsKernel (measures .radius) (now psf) (now c) ⌝ }
-    requires { ⌜ (row < measures .height) × (col < measures .width) ⌝ }
-    requires { ⌜ (row2 < measures .height) × (col2 < measures .width) ⌝ }
-    requires { ⌜ (getD (now dots) (cellAt (measures .width) row col) 0
-        ≡ getD (now dots) (cellAt (measures .width) row2 col2) 0 → ⊥) ⌝ }
-    requires { ⌜ delta ≡ change (targetFor measures (now psf) (now gray)) (now dots)
-        (Change.swap (now dots) (cellAt (measures .width) row col) (cellAt (measures .width) row2 col2)) ⌝ }
-    requires { ⌜ natAbs delta ≤ 2 ^ 50 ⌝ }
-    ensures { λ r. ⌜ r ≡ statsOf (targetFor measures (now (psf .entry)) (now (gray .entry)))
-        (afterSwap measures (now (psf .entry)) (now (gray .entry))
-        (reference (now (dots .entry)) stats) row col row2 col2) ⌝ }
-    ensures { λ _. ⌜ now (dots .exit) ≡ afterSwap measures (now (psf .entry)) (now (gray .entry))
-        (reference (now (dots .entry)) stats) row col row2 col2 .dots ⌝ }
-    ensures { λ _. ⌜ now (table .exit) ≡ filteredErrors (targetFor measures (now (psf .entry)) (now (gray .entry)))
-        (afterSwap measures (now (psf .entry)) (now (gray .entry))
-        (reference (now (dots .entry)) stats) row col row2 col2 .dots) ⌝ }
+    requires { ⌜ Ready measures (now psf) (now gray) (now c) (now dots) (now table) stats ⌝ }
+    requires { ⌜ OnPlate measures at × OnPlate measures to ⌝ }
+    requires { ⌜ Weighs (targetFor measures (now psf) (now gray)) (now dots) (swapAt measures (now dots) at to) delta ⌝ }
+    ensures { λ r. ⌜ (let t = targetFor measures (now (psf .entry)) (now (gray .entry)) in
+        Leaves t (accepting t (reference (now (dots .entry)) stats) (swapAt measures (now (dots .entry)) at to))
+        r (now (dots .exit)) (now (table .exit))) ⌝ }
 {
-    let width = measures.width;
-    let height = measures.height;
-    let radius = measures.radius;
-    let counted = count_swap(stats, delta);
-    flip(width, height, radius, c, dots, table, row, col);
-    flip(width, height, radius, c, dots, table, row2, col2);
-    counted
+    let here = dots[index(measures.width, at)];
+    let there = dots[index(measures.width, to)];
+    store(measures, psf, gray, c, dots, table, at, there);
+    store(measures, psf, gray, c, dots, table, to, here);
+    count_swap(stats, delta)
 }
 
-// An attempt to toggle.
+// An attempt to toggle a cell.
 pub fn toggle(
     measures: Measures,
     psf: &[u8],
@@ -172,24 +125,16 @@ pub fn toggle(
     dots: &mut [u8],
     table: &mut [i32],
     stats: Stats,
-    row: usize,
-    col: usize,
+    at: Cell,
 ) -> Attempt
-    requires { ⌜ LaterFits measures (now psf) (now gray) (now dots) (now table) stats ⌝ }
-    requires { ⌜ HoldsKernel (measures .radius) (now psf) (now c) ⌝ }
-    requires { ⌜ (row < measures .height) × (col < measures .width) ⌝ }
-    ensures { λ r. ⌜ attempted r ≡ result (toggled measures (now (psf .entry)) (now (gray .entry))
-        (reference (now (dots .entry)) stats) row col .answer) ⌝ }
-    ensures { λ _. ⌜ now (dots .exit) ≡ toggled measures (now (psf .entry)) (now (gray .entry))
-        (reference (now (dots .entry)) stats) row col .after .dots ⌝ }
-    ensures { λ _. ⌜ now (table .exit) ≡ filteredErrors (targetFor measures (now (psf .entry)) (now (gray .entry)))
-        (toggled measures (now (psf .entry)) (now (gray .entry))
-        (reference (now (dots .entry)) stats) row col .after .dots) ⌝ }
+    requires { ⌜ Ready measures (now psf) (now gray) (now c) (now dots) (now table) stats × OnPlate measures at ⌝ }
+    ensures { λ r. ⌜ (let t = targetFor measures (now (psf .entry)) (now (gray .entry)) in
+        Leaves t (replied (attempt t (reference (now (dots .entry)) stats) (toggleAt measures (now (dots .entry)) at)))
+        (attempted r) (now (dots .exit)) (now (table .exit))) ⌝ }
 {
-    let m = row * measures.width + col;
-    let delta = weigh_toggle(measures, psf, gray, c, dots, table, m);
+    let delta = weigh_toggle(measures, psf, gray, c, dots, table, at);
     if lowers(delta) {
-        let toggled = make_toggle(measures, psf, gray, c, dots, table, stats, row, col, delta);
+        let toggled = make_toggle(measures, psf, gray, c, dots, table, stats, at, delta);
         return Attempt::Accepted(toggled, delta);
     }
     Attempt::Declined(delta)
@@ -204,42 +149,34 @@ pub fn swap(
     dots: &mut [u8],
     table: &mut [i32],
     stats: Stats,
-    row: usize,
-    col: usize,
-    row2: usize,
-    col2: usize,
+    at: Cell,
+    to: Cell,
 ) -> Attempt
-    requires { ⌜ LaterFits measures (now psf) (now gray) (now dots) (now table) stats ⌝ }
-    requires { ⌜ HoldsKernel (measures .radius) (now psf) (now c) ⌝ }
-    requires { ⌜ (row < measures .height) × (col < measures .width) ⌝ }
-    requires { ⌜ (row2 < measures .height) × (col2 < measures .width) ⌝ }
-    requires { ⌜ (getD (now dots) (cellAt (measures .width) row col) 0
-        ≡ getD (now dots) (cellAt (measures .width) row2 col2) 0 → ⊥) ⌝ }
-    ensures { λ r. ⌜ attempted r ≡ result (swapped measures (now (psf .entry)) (now (gray .entry))
-        (reference (now (dots .entry)) stats) row col row2 col2 .answer) ⌝ }
-    ensures { λ _. ⌜ now (dots .exit) ≡ swapped measures (now (psf .entry)) (now (gray .entry))
-        (reference (now (dots .entry)) stats) row col row2 col2 .after .dots ⌝ }
-    ensures { λ _. ⌜ now (table .exit) ≡ filteredErrors (targetFor measures (now (psf .entry)) (now (gray .entry)))
-        (swapped measures (now (psf .entry)) (now (gray .entry))
-        (reference (now (dots .entry)) stats) row col row2 col2 .after .dots) ⌝ }
+    requires { ⌜ Ready measures (now psf) (now gray) (now c) (now dots) (now table) stats ⌝ }
+    requires { ⌜ OnPlate measures at × OnPlate measures to × Unlike measures (now dots) at to ⌝ }
+    ensures { λ r. ⌜ (let t = targetFor measures (now (psf .entry)) (now (gray .entry)) in
+        Leaves t (replied (attempt t (reference (now (dots .entry)) stats) (swapAt measures (now (dots .entry)) at to)))
+        (attempted r) (now (dots .exit)) (now (table .exit))) ⌝ }
 {
-    let delta = weigh_swap(measures, psf, gray, c, dots, table, row, col, row2, col2);
+    let delta = weigh_swap(measures, psf, gray, c, dots, table, at, to);
     if lowers(delta) {
-        let swapped = make_swap(
-            measures,
-            psf,
-            gray,
-            c,
-            dots,
-            table,
-            stats,
-            row,
-            col,
-            row2,
-            col2,
-            delta,
-        );
+        let swapped = make_swap(measures, psf, gray, c, dots, table, stats, at, to, delta);
         return Attempt::Accepted(swapped, delta);
     }
     Attempt::Declined(delta)
+}
+
+// what a scan has come to once an attempt has answered
+pub fn advance(progress: Progress, answer: Attempt) -> Progress
+    requires { ⌜ progress .changes < 2 ^ 63 ⌝ }
+    ensures { λ r. ⌜ r ≡ advanced progress (attempted answer) ⌝ }
+{
+    match answer {
+        Attempt::Accepted(stats, _) => Progress {
+            stats: stats,
+            changes: progress.changes + 1,
+        },
+        Attempt::Declined(_) => progress,
+        Attempt::Refused(_) => progress,
+    }
 }

@@ -1,18 +1,13 @@
 // The program `settle`: reads a sheet from standard input, lets it come to rest, and prints it with the two lines of
 // the ledger, or prints a refusal. What it prints for an input is `settle_program::run`; here is the reading and the writing.
-ghost use mathlib.Core.Path.{_≡_};
-ghost use Prim.Native.Nat.{_≤_, min};
+ghost use Prim.Native.Nat.{_≤_};
 ghost use lib.ListN.{length};
 use libc::STDERR_FILENO;
 use libc::STDIN_FILENO;
 use libc::STDOUT_FILENO;
-use sheet_write::put_bytes;
-
-fn least(a: usize, b: usize) -> usize
-    ensures { λ r. ⌜ r ≡ min a b ⌝ }
-{
-    if a < b { a } else { b }
-}
+use model::MOST_PRINTED;
+use slices::least;
+use slices::put_bytes;
 
 // reads until the buffer is full or the input ends, and answers how many bytes there are, or -1 where a read failed
 fn read_input(buf: &mut [u8]) -> isize
@@ -44,7 +39,7 @@ fn main() {
         return;
     }
     let n = io::count(got, &input);
-    let mut out = [0u8; 40960];
+    let mut out = [0u8; MOST_PRINTED];
     let k = settle_program::run(&input[..n], &mut out);
     if !io::write_all(STDOUT_FILENO, &out[..k]) {
         io::write_all(STDERR_FILENO, b"settle: the output could not be written\n");

@@ -3,13 +3,13 @@ ghost use mathlib.Core.Path.{_≡_};
 ghost use Prim.Native.Nat.{_≤_};
 ghost use lib.IntN.{pos};
 ghost use lib.ListN.{length, take, replicate};
-ghost use lib.Seq.{sets};
-ghost use Rattle.model.specs.Calls.{result};
-ghost use Rattle.model.specs.Sheet.{entriesOf, cellsOf, InRange, Shaped};
-ghost use Rattle.model.specs.SheetCalls.{writtenSheet};
-ghost use Rattle.model.specs.Program.{convergedText, startedText, processedText, output};
+ghost use Rattle.model.specs.Calls.{result, buffers};
+ghost use Rattle.model.specs.Sheet.{entriesOf, cellsOf, InRange};
+ghost use Rattle.model.specs.Program.{convergedText, startedText, processedText, mostPrinted, Prints, output};
+ghost use Rattle.settle_program.specs.Printable.{Printable};
 use model::ConvergeResult;
 use model::Converged;
+use model::MOST_PRINTED;
 use model::Measures;
 use model::Reading;
 use model::Started;
@@ -19,7 +19,6 @@ use settle_report::put_refused;
 use settle_report::put_stats;
 use sheet::read_sheet;
 use sheet_write::put_sheet;
-use sheet_write::sheet_length;
 use starts::start;
 
 // puts the sheet and the two lines of the ledger
@@ -31,16 +30,11 @@ fn put_result(
     done: ConvergeResult,
     out: &mut [u8],
 ) -> usize
-    requires { ⌜ InRange m ⌝ }
-    requires { ⌜ Shaped (writtenSheet m (now psf) (now gray) (now dots)) ⌝ }
-    requires { ⌜ (cellsOf m ≤ 4096) × (40960 ≤ length (now out)) ⌝ }
-    ensures { λ r. ⌜ (r ≡ length (convergedText m (now (psf .entry)) (now (gray .entry))
-        (result done) (now (dots .entry)))) × (r ≤ 40960) ⌝ }
-    ensures { λ _. ⌜ now (out .exit) ≡ sets (now (out .entry)) 0
-        (convergedText m (now (psf .entry)) (now (gray .entry)) (result done) (now (dots .entry))) ⌝ }
+    requires { ⌜ Printable m (now psf) (now gray) (now dots) (now out) ⌝ }
+    ensures { λ r. ⌜ Prints (convergedText m (now (psf .entry)) (now (gray .entry)) (result done) (now (dots .entry)))
+        (now (out .entry)) (now (out .exit)) r ⌝ }
 {
-    let end = sheet_length(m, psf, gray, dots);
-    put_sheet(out, m, psf, gray, dots);
+    let end = put_sheet(out, m, psf, gray, dots);
     put_stats(out, end, done)
 }
 
@@ -54,13 +48,9 @@ fn put_converged(
     stats: Stats,
     out: &mut [u8],
 ) -> usize
-    requires { ⌜ InRange m ⌝ }
-    requires { ⌜ Shaped (writtenSheet m (now psf) (now gray) (now dots)) ⌝ }
-    requires { ⌜ (cellsOf m ≤ 4096) × (40960 ≤ length (now out)) ⌝ }
-    ensures { λ r. ⌜ (r ≡ length (startedText m (now (psf .entry)) (now (gray .entry))
-        (result stats) (record { dots = now (dots .entry); table = now (table .entry) }))) × (r ≤ 40960) ⌝ }
-    ensures { λ _. ⌜ now (out .exit) ≡ sets (now (out .entry)) 0 (startedText m (now (psf .entry)) (now (gray .entry))
-        (result stats) (record { dots = now (dots .entry); table = now (table .entry) })) ⌝ }
+    requires { ⌜ Printable m (now psf) (now gray) (now dots) (now out) ⌝ }
+    ensures { λ r. ⌜ Prints (startedText m (now (psf .entry)) (now (gray .entry)) (result stats)
+        (buffers (now (dots .entry)) (now (table .entry)))) (now (out .entry)) (now (out .exit)) r ⌝ }
 {
     let answer = converge(m, psf, gray, dots, table, stats);
     match answer {
@@ -78,13 +68,9 @@ fn put_started(
     table: &mut [i32],
     out: &mut [u8],
 ) -> usize
-    requires { ⌜ InRange m ⌝ }
-    requires { ⌜ Shaped (writtenSheet m (now psf) (now gray) (now dots)) ⌝ }
-    requires { ⌜ (cellsOf m ≤ 4096) × (40960 ≤ length (now out)) ⌝ }
-    ensures { λ r. ⌜ (r ≡ length (processedText m (now (psf .entry)) (now (gray .entry))
-        (now (dots .entry)) (now (table .entry)))) × (r ≤ 40960) ⌝ }
-    ensures { λ _. ⌜ now (out .exit) ≡ sets (now (out .entry)) 0 (processedText m (now (psf .entry)) (now (gray .entry))
-        (now (dots .entry)) (now (table .entry))) ⌝ }
+    requires { ⌜ Printable m (now psf) (now gray) (now dots) (now out) ⌝ }
+    ensures { λ r. ⌜ Prints (processedText m (now (psf .entry)) (now (gray .entry)) (now (dots .entry))
+        (now (table .entry))) (now (out .entry)) (now (out .exit)) r ⌝ }
 {
     let answer = start(m, psf, gray, dots, table);
     match answer {
@@ -95,16 +81,11 @@ fn put_started(
 
 // starts with what stands at the front of the buffers
 fn process(m: Measures, psf: &[u8], gray: &[u8], dots: &mut [u8], out: &mut [u8]) -> usize
-    requires { ⌜ InRange m ⌝ }
-    requires { ⌜ (entriesOf m ≤ length (now psf)) × (cellsOf m ≤ length (now gray))
-        × (cellsOf m ≤ length (now dots)) ⌝ }
-    requires { ⌜ (cellsOf m ≤ 4096) × (40960 ≤ length (now out)) ⌝ }
-    ensures { λ r. ⌜ (r ≡ length (processedText m
-        (take (entriesOf m) (now (psf .entry))) (take (cellsOf m) (now (gray .entry)))
-        (take (cellsOf m) (now (dots .entry))) (replicate (cellsOf m) (pos 0)))) × (r ≤ 40960) ⌝ }
-    ensures { λ _. ⌜ now (out .exit) ≡ sets (now (out .entry)) 0 (processedText m
-        (take (entriesOf m) (now (psf .entry))) (take (cellsOf m) (now (gray .entry)))
-        (take (cellsOf m) (now (dots .entry))) (replicate (cellsOf m) (pos 0))) ⌝ }
+    requires { ⌜ InRange m × (cellsOf m ≤ 4096) × (mostPrinted ≤ length (now out)) ⌝ }
+    requires { ⌜ (entriesOf m ≤ length (now psf)) × (cellsOf m ≤ length (now gray)) × (cellsOf m ≤ length (now dots)) ⌝ }
+    ensures { λ r. ⌜ Prints (processedText m (take (entriesOf m) (now (psf .entry)))
+        (take (cellsOf m) (now (gray .entry))) (take (cellsOf m) (now (dots .entry))) (replicate (cellsOf m) (pos 0)))
+        (now (out .entry)) (now (out .exit)) r ⌝ }
 {
     let side = 2 * m.radius + 1;
     let entries = side * side;
@@ -121,9 +102,8 @@ fn process(m: Measures, psf: &[u8], gray: &[u8], dots: &mut [u8], out: &mut [u8]
 }
 
 // Puts what is printed for an input at the front of an output of 40,960 bytes, and answers its length.
-pub fn run(input: &[u8], out: &mut [u8; 40960]) -> usize
-    ensures { λ r. ⌜ r ≡ length (output (now (input .entry))) ⌝ }
-    ensures { λ _. ⌜ now (out .exit) ≡ sets (now (out .entry)) 0 (output (now (input .entry))) ⌝ }
+pub fn run(input: &[u8], out: &mut [u8; MOST_PRINTED]) -> usize
+    ensures { λ r. ⌜ Prints (output (now (input .entry))) (now (out .entry)) (now (out .exit)) r ⌝ }
     ensures { λ r. ⌜ (r ≤ length (now (out .exit))) × (r ≡ length (take r (now (out .exit)))) ⌝ }
 {
     if 32768 < input.len() {

@@ -1,7 +1,4 @@
--- How long a number is at most, and how long the lines are.
---   digits-most     a number of 64 bits has at most 20 digits
---   refused-length  the line of a refusal
---   figures-length  the two lines of the ledger
+-- How long a number is at most, and how long the line of a refusal is.
 use mathlib.Core.Path.{_≡_}
 use Prim.Native.Nat.{ℕ, _+_, _^_, _≤_, _<_}
 use native.Mathlib.Nat.{lt-trans}
@@ -9,7 +6,7 @@ use native.Mathlib.Omega.{arith}
 use lib.Dec.{lit<}
 use lib.ListN.{length, length-append}
 use Rattle.model.specs.Text.{digits}
-use Rattle.model.specs.Program.{refusedText, figuresText}
+use Rattle.model.specs.Program.{refusedText}
 use Rattle.model.proofs.Text.{length-most}
 
 -- a number of 64 bits
@@ -19,9 +16,3 @@ digits-most n h = length-most 19 n (lt-trans h (lit< tt))
 pub refused-length : (n o : ℕ) → length (refusedText n o) ≡ 8 + length (digits n) + 4 + (length (digits o) + 1)
 unfolding refusedText
 refused-length n o = simp length-append (omega arith)
-
-pub figures-length : (a b c d e f : ℕ) → length (figuresText a b c d e f)
-    ≡ 32 + (length (digits a) + 1) + (length (digits b) + 1) + (length (digits c) + 1) + (length (digits d) + 1)
-    + (length (digits e) + 1) + (length (digits f) + 1)
-unfolding figuresText
-figures-length a b c d e f = simp length-append (omega arith)

@@ -5,7 +5,7 @@
 --   write-refused, write-short, write-done  1 to 5 and 7; 12; the sheet is written
 use mathlib.Core.Bool.{true, false}
 use mathlib.Core.List.{List}
-use mathlib.Core.Path.{_≡_, refl, ap, sym}
+use mathlib.Core.Path.{_≡_, refl}
 use Prim.Native.Nat.{ℕ, zero, suc, _≤_, _<_}
 use borrow.Author.Tests.{eq-eqb, ne-eqb, le-leb, lt-leb}
 use lib.ListN.{length}
@@ -17,26 +17,14 @@ use Rattle.model.specs.Refusal.{writeRefusal}
 use Rattle.model.specs.Sheet.{sheetText, InRange, roomFor}
 use Rattle.model.specs.Format.{body, parse, headOf, sheetOf, bodyEnd, readSheet}
 use Rattle.model.specs.Calls.{result, refused, Outcome, unless}
-use Rattle.model.specs.SheetCalls.{SheetBuffers, readCall, writtenSheet, writeText, writeCall}
+use Rattle.model.specs.SheetCalls.{SheetBuffers, sheetBuffers, stored, readCall, writtenSheet, writeText, writeCall}
 use Rattle.model.proofs.Sheet.{head-in-range}
 
 -- ---- reading
--- an outcome as the contract asks for it
-pub read : {r v : Outcome Measures SheetBuffers} → r ≡ v
-    → (v .reply ≡ r .reply)
-    × ((v .left .psf ≡ r .left .psf) × ((v .left .gray ≡ r .left .gray) × (v .left .dots ≡ r .left .dots)))
-read e = (
-  sym (ap (λ r. r .reply) e),
-  (
-    sym (ap (λ r. r .left .psf) e),
-    (sym (ap (λ r. r .left .gray) e), sym (ap (λ r. r .left .dots) e)),
-  ),
-)
-
 module _ (bytes psf gray dots : List ℕ) (h : Head) (e : h ≡ headOf bytes) where
   -- refused, and the buffers left
   abbrev unread : (number at : ℕ) → Outcome Measures SheetBuffers
-  unread n o = record { reply = refused n o; left = record { psf = psf; gray = gray; dots = dots } }
+  unread n o = record { reply = refused n o; left = sheetBuffers psf gray dots }
 
   pub head-refused : (h .refusal ≡ 0 → ⊥) → readCall bytes psf gray dots ≡ unread (h .refusal) (h .at)
   unfolding readCall readSheet
@@ -61,22 +49,11 @@ module _ (bytes psf gray dots : List ℕ) (h : Head) (e : h ≡ headOf bytes) wh
       pub read-done : p .refusal ≡ 0
           → let s = sheetOf (h .measures) (parse (body (h .measures)) bytes (h .at) .values) in
           readCall bytes psf gray dots
-          ≡ record {
-            reply = result (h .measures);
-            left = record {
-              psf = sets psf 0 (s .psf);
-              gray = sets gray 0 (s .gray);
-              dots = sets dots 0 (s .dots);
-            };
-          }
+          ≡ record { reply = result (h .measures); left = stored s (sheetBuffers psf gray dots) }
       unfolding readCall readSheet
       read-done y = rw (← e, eq-eqb (h .refusal) 0 z, f, ← q, eq-eqb (p .refusal) 0 y)
 
 -- ---- writing
--- an outcome as the contract asks for it
-pub wrote : {w v : Outcome ℕ (List ℕ)} → w ≡ v → (v .reply ≡ w .reply) × (v .left ≡ w .left)
-wrote e = (sym (ap (λ w. w .reply) e), sym (ap (λ w. w .left) e))
-
 module _ (m : Measures) (psf gray dots out : List ℕ) where
   abbrev text : List ℕ
   text = sheetText (writtenSheet m psf gray dots)

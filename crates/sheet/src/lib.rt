@@ -1,6 +1,6 @@
 // The public calls that read and write a sheet.
-ghost use mathlib.Core.Path.{_≡_};
-ghost use Rattle.model.specs.SheetCalls.{readingOf, readCall, writingOf, writeCall};
+ghost use Rattle.model.specs.Calls.{Ends};
+ghost use Rattle.model.specs.SheetCalls.{readingOf, sheetBuffers, readCall, writingOf, writeCall};
 use judge_input::judge_sheet;
 use model::Measures;
 use model::Reading;
@@ -14,14 +14,8 @@ use sheet_write::sheet_length;
 
 // Reads a sheet into buffers that are long enough. The whole sheet is judged before anything is stored.
 pub fn read_sheet(bytes: &[u8], psf: &mut [u8], gray: &mut [u8], dots: &mut [u8]) -> Reading
-    ensures { λ r. ⌜ readingOf r ≡ readCall (now (bytes .entry))
-        (now (psf .entry)) (now (gray .entry)) (now (dots .entry)) .reply ⌝ }
-    ensures { λ _. ⌜ now (psf .exit) ≡ readCall (now (bytes .entry))
-        (now (psf .entry)) (now (gray .entry)) (now (dots .entry)) .left .psf ⌝ }
-    ensures { λ _. ⌜ now (gray .exit) ≡ readCall (now (bytes .entry))
-        (now (psf .entry)) (now (gray .entry)) (now (dots .entry)) .left .gray ⌝ }
-    ensures { λ _. ⌜ now (dots .exit) ≡ readCall (now (bytes .entry))
-        (now (psf .entry)) (now (gray .entry)) (now (dots .entry)) .left .dots ⌝ }
+    ensures { λ r. ⌜ Ends (readCall (now (bytes .entry)) (now (psf .entry)) (now (gray .entry)) (now (dots .entry)))
+        (readingOf r) (sheetBuffers (now (psf .exit)) (now (gray .exit)) (now (dots .exit))) ⌝ }
 {
     let head = read_head(bytes, 0);
     if head.refusal != 0 {
@@ -48,19 +42,15 @@ pub fn write_sheet(
     dots: &[u8],
     out: &mut [u8],
 ) -> Writing
-    ensures { λ r. ⌜ writingOf r ≡ writeCall measures
-        (now (psf .entry)) (now (gray .entry)) (now (dots .entry)) (now (out .entry)) .reply ⌝ }
-    ensures { λ _. ⌜ now (out .exit) ≡ writeCall measures
-        (now (psf .entry)) (now (gray .entry)) (now (dots .entry)) (now (out .entry)) .left ⌝ }
+    ensures { λ r. ⌜ Ends (writeCall measures (now (psf .entry)) (now (gray .entry)) (now (dots .entry))
+        (now (out .entry))) (writingOf r) (now (out .exit)) ⌝ }
 {
     let number = judge_sheet(measures, psf, gray, dots);
     if number != 0 {
         return Writing::Refused(number, 0);
     }
-    let length = sheet_length(measures, psf, gray, dots);
-    if out.len() < length {
+    if out.len() < sheet_length(measures, psf, gray, dots) {
         return Writing::Refused(12, out.len());
     }
-    put_sheet(out, measures, psf, gray, dots);
-    Writing::Done(length)
+    Writing::Done(put_sheet(out, measures, psf, gray, dots))
 }

@@ -13,7 +13,8 @@ use Rattle.model.specs.declared.Item.the-variants.{Word, Number, LineEnd, Other
 use Rattle.model.specs.declared.Step.{Step}
 use Rattle.model.specs.Basic.{pick}
 use Rattle.model.specs.Text.{stepTo}
-use Rattle.model.specs.Format.{Part, number, isAt, fieldBy, limitOf, fieldAt, Parsed, parsed, parse, fieldNext}
+use Rattle.model.specs.Format.{Part, number, isAt, fieldBy, limitOf, fieldAt, Parsed, parsed, parse}
+use Rattle.invariants.specs.Reading.{fieldNext}
 use Rattle.model.proofs.Basic.{pick-cases}
 
 -- a refused number is 0

@@ -28,10 +28,12 @@ use Rattle.model.specs.Basic.{pick}
 use Rattle.model.specs.Text.{isLetter, isDigit, step, runTo, stepTo, stepAt}
 use Rattle.model.specs.Sheet.{endOf}
 use Rattle.model.specs.Format.{Part, fixed, grid, block, isAt, place, fixedAt, field, fieldBy, limitOf, fieldAt}
-use Rattle.model.specs.Format.{Parsed, parsed, onFixed, onField, parse, placeOf, parseNext}
+use Rattle.model.specs.Format.{Parsed, parsed, onFixed, onField, parse, placeOf}
+use Rattle.invariants.specs.Reading.{parseNext}
 use Rattle.model.proofs.Basic.{pick-cases}
 use Rattle.model.proofs.Text.{and-true, digit-range}
-use Rattle.model.proofs.Format.{fixed-good, fixed-on, field-good, field-on, field-off, parse-next}
+use Rattle.model.proofs.Format.{fixed-good, fixed-on, field-good, field-on, field-off}
+use Rattle.invariants.proofs.Reading.{parse-next}
 use Rattle.text_reader.proofs.Items.{item-word, item-number, item-other}
 
 -- ---- parts after what was read

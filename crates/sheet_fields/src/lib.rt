@@ -6,10 +6,12 @@ ghost use mathlib.Core.Path.{_≡_};
 ghost use Prim.Native.Nat.{_^_, _≤_, _<_};
 ghost use lib.ListN.{length, getD};
 ghost use lib.Seq.{sets};
+ghost use Rattle.model.specs.Error.{mostCells};
 ghost use Rattle.model.specs.Text.{isLetter, stepTo};
 ghost use Rattle.model.specs.Sheet.{endOf};
-ghost use Rattle.model.specs.Format.{grid, block, isAt, fixedAt, fieldAt, parse, placeOf};
-ghost use Rattle.model.specs.Format.{fixed, parseNext, fieldNext, limitOf};
+ghost use Rattle.model.specs.Format.{grid, block, field, isAt, fixedAt, fieldAt, parse, placeOf};
+ghost use Rattle.model.specs.Format.{fixed, limitOf};
+ghost use Rattle.invariants.specs.Reading.{parseNext, fieldNext};
 use model::Field;
 use model::Item;
 use model::Place;
@@ -108,6 +110,17 @@ fn step_in(s: &[u8], at: usize, hi: usize) -> Step
     step_to(hi + 1, s, at)
 }
 
+// a number and the place after it, or a refusal
+fn field_of(refusal: u32, at: usize, value: usize) -> Field
+    ensures { λ r. ⌜ r ≡ field refusal at value ⌝ }
+{
+    Field {
+        refusal: refusal,
+        at: at,
+        value: value,
+    }
+}
+
 // a number from lo to hi and the byte that ends it
 fn read_field(s: &[u8], at: usize, lo: usize, hi: usize, end: u8) -> Field
     requires { ⌜ hi < 2 ^ 63 ⌝ }
@@ -120,37 +133,17 @@ fn read_field(s: &[u8], at: usize, lo: usize, hi: usize, end: u8) -> Field
     match item {
         Item::Number(value) => {
             if value < lo {
-                return Field {
-                    refusal: 11,
-                    at: from,
-                    value: 0,
-                };
+                return field_of(11, from, 0);
             }
             if hi < value {
-                return Field {
-                    refusal: 11,
-                    at: from,
-                    value: 0,
-                };
+                return field_of(11, from, 0);
             }
             if ends_in(s, next, end) {
-                return Field {
-                    refusal: 0,
-                    at: next + 1,
-                    value: value,
-                };
+                return field_of(0, next + 1, value);
             }
-            Field {
-                refusal: 10,
-                at: next,
-                value: 0,
-            }
+            field_of(10, next, 0)
         }
-        _ => Field {
-            refusal: 10,
-            at: from,
-            value: 0,
-        },
+        _ => field_of(10, from, 0),
     }
 }
 
@@ -160,18 +153,14 @@ pub fn next_field(s: &[u8], done: Field, lo: usize, hi: usize, end: u8) -> Field
     ensures { λ r. ⌜ r ≡ fieldNext lo hi end (now (s .entry)) done ⌝ }
 {
     if done.refusal != 0 {
-        return Field {
-            refusal: done.refusal,
-            at: done.at,
-            value: 0,
-        };
+        return field_of(done.refusal, done.at, 0);
     }
     read_field(s, done.at, lo, hi, end)
 }
 
 // what ends value i of rows of w values: LF at the end of a row, a space elsewhere
 pub fn end_of(w: usize, i: usize) -> u8
-    requires { ⌜ (1 ≤ w) × (i < 65536) ⌝ }
+    requires { ⌜ (1 ≤ w) × (i < mostCells) ⌝ }
     ensures { λ r. ⌜ r ≡ endOf w i ⌝ }
 {
     if (i + 1) % w == 0 { 10 } else { 32 }
@@ -179,7 +168,7 @@ pub fn end_of(w: usize, i: usize) -> u8
 
 // judges n numbers in rows of w
 fn judge_grid(s: &[u8], at: usize, w: usize, n: usize, hi: usize) -> Place
-    requires { ⌜ (1 ≤ w) × (n ≤ 65536) × (hi < 256) ⌝ }
+    requires { ⌜ (1 ≤ w) × (n ≤ mostCells) × (hi < 256) ⌝ }
     ensures { λ r. ⌜ r ≡ placeOf (parse (grid w hi 0 n) (now (s .entry)) at) ⌝ }
 {
     let mut i: usize = 0;
@@ -203,7 +192,7 @@ fn judge_grid(s: &[u8], at: usize, w: usize, n: usize, hi: usize) -> Place
 
 // stores n numbers in rows of w that were judged good, and answers the place after them
 fn store_grid(s: &[u8], at: usize, w: usize, n: usize, hi: usize, out: &mut [u8]) -> usize
-    requires { ⌜ (1 ≤ w) × (n ≤ 65536) × (hi < 256) × (n ≤ length (now out)) ⌝ }
+    requires { ⌜ (1 ≤ w) × (n ≤ mostCells) × (hi < 256) × (n ≤ length (now out)) ⌝ }
     requires { ⌜ parse (grid w hi 0 n) (now s) at .refusal ≡ 0 ⌝ }
     ensures { λ r. ⌜ r ≡ parse (grid w hi 0 n) (now (s .entry)) at .at ⌝ }
     ensures { λ _. ⌜ now (out .exit)
@@ -222,7 +211,7 @@ fn store_grid(s: &[u8], at: usize, w: usize, n: usize, hi: usize, out: &mut [u8]
 
 // Judges a name and its rows after what was read; what was refused stays refused.
 pub fn judge_block(s: &[u8], done: Place, name: &[u8], w: usize, n: usize, hi: usize) -> Place
-    requires { ⌜ (1 ≤ w) × (n ≤ 65536) × (hi < 256) ⌝ }
+    requires { ⌜ (1 ≤ w) × (n ≤ mostCells) × (hi < 256) ⌝ }
     requires { ⌜ (0 < length (now name)) × (isLetter (getD (now name) 0 0) ≡ true) ⌝ }
     ensures { λ r. ⌜ r ≡ parseNext (block (now (name .entry) ++ (10 ∷ [])) w n hi) (now (s .entry)) done ⌝ }
 {
@@ -243,7 +232,7 @@ pub fn store_block(
     hi: usize,
     out: &mut [u8],
 ) -> usize
-    requires { ⌜ (1 ≤ w) × (n ≤ 65536) × (hi < 256) × (n ≤ length (now out)) ⌝ }
+    requires { ⌜ (1 ≤ w) × (n ≤ mostCells) × (hi < 256) × (n ≤ length (now out)) ⌝ }
     requires { ⌜ (0 < length (now name)) × (isLetter (getD (now name) 0 0) ≡ true) ⌝ }
     requires { ⌜ parse (block (now name ++ (10 ∷ [])) w n hi) (now s) at .refusal ≡ 0 ⌝ }
     ensures { λ r. ⌜ r ≡ parse (block (now (name .entry) ++ (10 ∷ [])) w n hi) (now (s .entry)) at .at ⌝ }

@@ -18,7 +18,8 @@ use Rattle.model.specs.declared.Place.{Place}
 use Rattle.model.specs.Text.{bytes}
 use Rattle.model.specs.Sheet.{sideOf, entriesOf, cellsOf, dotsIn, psfName, grayName, dotsName, roomFor}
 use Rattle.model.specs.Format.{Part, block, psfBlock, grayBlock, dotsBlock, body, place, Parsed, parse, placeOf}
-use Rattle.model.specs.Format.{parseNext, ended, sheetOf, bodyEnd}
+use Rattle.model.specs.Format.{ended, sheetOf, bodyEnd}
+use Rattle.invariants.specs.Reading.{parseNext}
 use Rattle.model.proofs.Basic.{zero-cases}
 use Rattle.model.proofs.Text.{and-true}
 use Rattle.model.proofs.Format.{parse-append, parse-refused, values-length, numbers-grid}

@@ -9,7 +9,8 @@ use Rattle.model.specs.declared.Place.{Place}
 use Rattle.model.specs.Text.{bytes}
 use Rattle.model.specs.Sheet.{names}
 use Rattle.model.specs.Format.{fixed, number, headFrom, place, fixedAt, field}
-use Rattle.model.specs.Format.{Parsed, parseNext, fieldNext, measuresOf, headBy}
+use Rattle.model.specs.Format.{Parsed, measuresOf, headBy}
+use Rattle.invariants.specs.Reading.{parseNext, fieldNext}
 use Rattle.sheet_fields.proofs.Parts.{next-on, place-fixed, next-fixed}
 use Rattle.sheet_fields.proofs.Fields.{after, read-none, read-on}
 

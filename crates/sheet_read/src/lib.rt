@@ -4,9 +4,12 @@ ghost use mathlib.Core.Path.{_≡_};
 ghost use Prim.Native.Nat.{_≤_};
 ghost use lib.ListN.{length};
 ghost use lib.Seq.{sets};
+ghost use Rattle.model.specs.Error.{mostCells};
 ghost use Rattle.model.specs.Sheet.{sideOf, entriesOf, cellsOf, dotsIn, names, InRange, roomFor};
-ghost use Rattle.model.specs.Format.{headFrom, dotsBlock, body, fixedAt, parse, placeOf, parseNext, ended};
+ghost use Rattle.model.specs.Format.{headFrom, dotsBlock, body, fixedAt, parse, placeOf, ended};
+ghost use Rattle.invariants.specs.Reading.{parseNext};
 ghost use Rattle.model.specs.Format.{headBy, sheetOf, bodyEnd};
+ghost use Rattle.model.specs.SheetCalls.{sheetBuffers, stored};
 use model::Field;
 use model::Head;
 use model::Measures;
@@ -73,9 +76,10 @@ pub fn entries(m: Measures) -> usize
     side * side
 }
 
+// how many cells there are
 pub fn cells(m: Measures) -> usize
     requires { ⌜ InRange m ⌝ }
-    ensures { λ r. ⌜ (r ≡ cellsOf m) × (r ≤ 65536) ⌝ }
+    ensures { λ r. ⌜ (r ≡ cellsOf m) × (r ≤ mostCells) ⌝ }
 {
     m.height * m.width
 }
@@ -174,12 +178,9 @@ pub fn store_body(
     requires { ⌜ InRange m ⌝ }
     requires { ⌜ parse (body m) (now s) at .refusal ≡ 0 ⌝ }
     requires { ⌜ roomFor m (length (now psf)) (length (now gray)) (length (now dots)) ≡ true ⌝ }
-    ensures { λ _. ⌜ now (psf .exit)
-        ≡ sets (now (psf .entry)) 0 (sheetOf m (parse (body m) (now (s .entry)) at .values) .psf) ⌝ }
-    ensures { λ _. ⌜ now (gray .exit)
-        ≡ sets (now (gray .entry)) 0 (sheetOf m (parse (body m) (now (s .entry)) at .values) .gray) ⌝ }
-    ensures { λ _. ⌜ now (dots .exit)
-        ≡ sets (now (dots .entry)) 0 (sheetOf m (parse (body m) (now (s .entry)) at .values) .dots) ⌝ }
+    ensures { λ _. ⌜ sheetBuffers (now (psf .exit)) (now (gray .exit)) (now (dots .exit))
+        ≡ stored (sheetOf m (parse (body m) (now (s .entry)) at .values))
+        (sheetBuffers (now (psf .entry)) (now (gray .entry)) (now (dots .entry))) ⌝ }
 {
     let under_psf = store_block(s, at, b"psf", side(m), entries(m), 255, psf);
     let under_gray = store_block(s, under_psf, b"gray", m.width, cells(m), 255, gray);

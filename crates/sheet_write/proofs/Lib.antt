@@ -1,2 +1,2 @@
 -- What the proofs of the lines of a sheet share.
-pub mod Puts
+pub mod Parts

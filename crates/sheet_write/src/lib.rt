@@ -3,12 +3,13 @@ ghost use mathlib.Core.List.{[], _∷_, _++_};
 ghost use mathlib.Core.Path.{_≡_};
 ghost use Prim.Native.Nat.{_+_, _≤_};
 ghost use lib.ListN.{length};
-ghost use lib.Seq.{sets};
-ghost use Rattle.model.specs.Text.{digits};
-ghost use Rattle.model.specs.Sheet.{row, names, valuesOf, sheetText, InRange, Shaped, gridText, gridLength};
+ghost use Rattle.model.specs.Error.{mostCells};
+ghost use Rattle.model.specs.Text.{digits, Puts};
+ghost use Rattle.model.specs.Sheet.{row, headText, sheetText, InRange, Shaped, gridText, gridLength};
 ghost use Rattle.model.specs.SheetCalls.{withGiven, writtenSheet};
 use model::Measures;
 use sheet_fields::end_of;
+use slices::put_bytes;
 use text_decimal::digit_count;
 use text_decimal::put_number;
 
@@ -18,37 +19,36 @@ fn wide(b: u8) -> usize
     b as usize
 }
 
-// these bytes
-pub fn put_bytes(out: &mut [u8], at: usize, bytes: &[u8]) -> usize
-    requires { ⌜ at + length (now bytes) ≤ length (now out) ⌝ }
-    ensures { λ r. ⌜ r ≡ at + length (now (bytes .entry)) ⌝ }
-    ensures { λ _. ⌜ now (out .exit) ≡ sets (now (out .entry)) at (now (bytes .entry)) ⌝ }
-{
-    let mut i: usize = 0;
-    while i < bytes.len() {
-        out[at + i] = bytes[i];
-        i += 1;
-    }
-    at + i
-}
-
 // a number and the byte that ends it
 pub fn put_field(out: &mut [u8], at: usize, n: usize, end: u8) -> usize
     requires { ⌜ at + (length (digits n) + 1) ≤ length (now out) ⌝ }
-    ensures { λ r. ⌜ r ≡ at + (length (digits n) + 1) ⌝ }
-    ensures { λ _. ⌜ now (out .exit) ≡ sets (now (out .entry)) at (digits n ++ (end ∷ [])) ⌝ }
+    ensures { λ r. ⌜ Puts (digits n ++ (end ∷ [])) (now (out .entry)) (now (out .exit)) at r ⌝ }
 {
     let next = put_number(out, at, n);
     out[next] = end;
     next + 1
 }
 
+// Puts values in a row.
+pub fn put_row(out: &mut [u8], at: usize, values: &[usize]) -> usize
+    requires { ⌜ (1 ≤ length (now values)) × (at + length (row (now values)) ≤ length (now out)) ⌝ }
+    ensures { λ r. ⌜ Puts (row (now (values .entry))) (now (out .entry)) (now (out .exit)) at r ⌝ }
+{
+    let last = values.len() - 1;
+    let mut i: usize = 0;
+    let mut next = at;
+    while i < last {
+        next = put_field(out, next, values[i], 32);
+        i += 1;
+    }
+    put_field(out, next, values[last], 10)
+}
+
 // values in rows of w
 fn put_grid(out: &mut [u8], at: usize, values: &[u8], w: usize) -> usize
-    requires { ⌜ (1 ≤ w) × (length (now values) ≤ 65536) ⌝ }
-    requires { ⌜ at + gridLength (now values) ≤ length (now out) ⌝ }
-    ensures { λ r. ⌜ r ≡ at + gridLength (now (values .entry)) ⌝ }
-    ensures { λ _. ⌜ now (out .exit) ≡ sets (now (out .entry)) at (gridText w 0 (now (values .entry))) ⌝ }
+    requires { ⌜ (1 ≤ w) × (length (now values) ≤ mostCells) ⌝ }
+    requires { ⌜ at + length (gridText w 0 (now values)) ≤ length (now out) ⌝ }
+    ensures { λ r. ⌜ Puts (gridText w 0 (now (values .entry))) (now (out .entry)) (now (out .exit)) at r ⌝ }
 {
     let mut i: usize = 0;
     let mut next = at;
@@ -61,11 +61,10 @@ fn put_grid(out: &mut [u8], at: usize, values: &[u8], w: usize) -> usize
 
 // a name and its rows
 fn put_block(out: &mut [u8], at: usize, name: &[u8], values: &[u8], w: usize) -> usize
-    requires { ⌜ (1 ≤ w) × (length (now values) ≤ 65536) ⌝ }
-    requires { ⌜ at + (length (now name) + gridLength (now values)) ≤ length (now out) ⌝ }
-    ensures { λ r. ⌜ r ≡ at + (length (now (name .entry)) + gridLength (now (values .entry))) ⌝ }
-    ensures { λ _. ⌜ now (out .exit)
-        ≡ sets (now (out .entry)) at (now (name .entry) ++ gridText w 0 (now (values .entry))) ⌝ }
+    requires { ⌜ (1 ≤ w) × (length (now values) ≤ mostCells) ⌝ }
+    requires { ⌜ at + length (now name ++ gridText w 0 (now values)) ≤ length (now out) ⌝ }
+    ensures { λ r. ⌜ Puts (now (name .entry) ++ gridText w 0 (now (values .entry)))
+        (now (out .entry)) (now (out .exit)) at r ⌝ }
 {
     let next = put_bytes(out, at, name);
     put_grid(out, next, values, w)
@@ -73,7 +72,7 @@ fn put_block(out: &mut [u8], at: usize, name: &[u8], values: &[u8], w: usize) ->
 
 // how long rows of values are
 fn grid_length(values: &[u8]) -> usize
-    requires { ⌜ length (now values) ≤ 65536 ⌝ }
+    requires { ⌜ length (now values) ≤ mostCells ⌝ }
     ensures { λ r. ⌜ (r ≡ gridLength (now (values .entry))) × (r ≤ 262144) ⌝ }
 {
     let mut i: usize = 0;
@@ -87,22 +86,18 @@ fn grid_length(values: &[u8]) -> usize
 
 // lines 1 and 2, with start 2
 fn put_head(out: &mut [u8], m: Measures) -> usize
-    requires { ⌜ length (names ++ row (valuesOf (withGiven m))) ≤ length (now out) ⌝ }
-    ensures { λ r. ⌜ r ≡ length (names ++ row (valuesOf (withGiven m))) ⌝ }
-    ensures { λ _. ⌜ now (out .exit) ≡ sets (now (out .entry)) 0 (names ++ row (valuesOf (withGiven m))) ⌝ }
+    requires { ⌜ length (headText (withGiven m)) ≤ length (now out) ⌝ }
+    ensures { λ r. ⌜ Puts (headText (withGiven m)) (now (out .entry)) (now (out .exit)) 0 r ⌝ }
 {
     let line = put_bytes(out, 0, b"width height radius reach start\n");
-    let width = put_field(out, line, m.width, 32);
-    let height = put_field(out, width, m.height, 32);
-    let radius = put_field(out, height, m.radius, 32);
-    let reach = put_field(out, radius, m.reach, 32);
-    put_field(out, reach, 2, 10)
+    let values = [m.width, m.height, m.radius, m.reach, 2];
+    put_row(out, line, &values)
 }
 
 // how long lines 1 and 2 are
 fn head_length(m: Measures) -> usize
     requires { ⌜ InRange m ⌝ }
-    ensures { λ r. ⌜ (r ≡ length (names ++ row (valuesOf (withGiven m)))) × (r ≤ 52) ⌝ }
+    ensures { λ r. ⌜ (r ≡ length (headText (withGiven m))) × (r ≤ 52) ⌝ }
 {
     let width = digit_count(m.width) + 1;
     let height = digit_count(m.height) + 1;
@@ -113,8 +108,7 @@ fn head_length(m: Measures) -> usize
 
 // How long a sheet is.
 pub fn sheet_length(m: Measures, psf: &[u8], gray: &[u8], dots: &[u8]) -> usize
-    requires { ⌜ InRange m ⌝ }
-    requires { ⌜ Shaped (writtenSheet m (now psf) (now gray) (now dots)) ⌝ }
+    requires { ⌜ InRange m × Shaped (writtenSheet m (now psf) (now gray) (now dots)) ⌝ }
     ensures { λ r. ⌜ r ≡ length (sheetText (writtenSheet m
         (now (psf .entry)) (now (gray .entry)) (now (dots .entry)))) ⌝ }
 {
@@ -125,16 +119,15 @@ pub fn sheet_length(m: Measures, psf: &[u8], gray: &[u8], dots: &[u8]) -> usize
     head + psf_block + gray_block + dots_block
 }
 
-// Puts a sheet at the front of an output that is long enough.
-pub fn put_sheet(out: &mut [u8], m: Measures, psf: &[u8], gray: &[u8], dots: &[u8])
-    requires { ⌜ InRange m ⌝ }
-    requires { ⌜ Shaped (writtenSheet m (now psf) (now gray) (now dots)) ⌝ }
+// Puts a sheet at the front of an output that is long enough, and answers its length.
+pub fn put_sheet(out: &mut [u8], m: Measures, psf: &[u8], gray: &[u8], dots: &[u8]) -> usize
+    requires { ⌜ InRange m × Shaped (writtenSheet m (now psf) (now gray) (now dots)) ⌝ }
     requires { ⌜ length (sheetText (writtenSheet m (now psf) (now gray) (now dots))) ≤ length (now out) ⌝ }
-    ensures { λ _. ⌜ now (out .exit) ≡ sets (now (out .entry)) 0 (sheetText (writtenSheet m
-        (now (psf .entry)) (now (gray .entry)) (now (dots .entry)))) ⌝ }
+    ensures { λ r. ⌜ Puts (sheetText (writtenSheet m (now (psf .entry)) (now (gray .entry)) (now (dots .entry))))
+        (now (out .entry)) (now (out .exit)) 0 r ⌝ }
 {
     let head = put_head(out, m);
     let under_psf = put_block(out, head, b"psf\n", psf, 2 * m.radius + 1);
     let under_gray = put_block(out, under_psf, b"gray\n", gray, m.width);
-    put_block(out, under_gray, b"dots\n", dots, m.width);
+    put_block(out, under_gray, b"dots\n", dots, m.width)
 }

@@ -3,47 +3,34 @@
 ghost use mathlib.Core.Path.{_≡_};
 ghost use lib.ListN.{length};
 ghost use Rattle.model.specs.Basic.{AtMost};
-ghost use Rattle.model.specs.Error.{targetOf, filteredErrors};
+ghost use Rattle.model.specs.Error.{targetFor, filteredErrors};
 ghost use Rattle.model.specs.Refusal.{HalftoneFits};
-ghost use Rattle.model.specs.Calls.{started, startCall};
+ghost use Rattle.model.specs.Calls.{Ends, buffers, started, startCall};
 ghost use Rattle.model.specs.Ledger.{freshStats};
 use filter_sums::filter_and_square;
 use judge_input::judge_start;
-use judge_parts::sum;
-use model::Figures;
 use model::Measures;
 use model::Started;
 use model::Stats;
+use starts_screen::fresh;
 use starts_screen::start_dots;
 
 // the table of judged dots, and a fresh ledger
-fn begin(
-    width: usize,
-    height: usize,
-    radius: usize,
-    psf: &[u8],
-    gray: &[u8],
-    dots: &[u8],
-    table: &mut [i32],
-) -> Stats
-    requires { ⌜ HalftoneFits width height radius (now psf) (now gray) (now dots) (length (now table)) ⌝ }
-    ensures { λ _. ⌜ now (table .exit) ≡ filteredErrors
-        (targetOf width height radius (now (psf .entry)) (now (gray .entry))) (now (dots .entry)) ⌝ }
-    ensures { λ r. ⌜ r ≡ freshStats
-        (targetOf width height radius (now (psf .entry)) (now (gray .entry))) (now (dots .entry)) ⌝ }
+fn begin_plate(measures: Measures, psf: &[u8], gray: &[u8], dots: &[u8], table: &mut [i32]) -> Stats
+    requires { ⌜ HalftoneFits (targetFor measures (now psf) (now gray)) (now dots) (length (now table)) ⌝ }
+    ensures { λ r. let t = targetFor measures (now (psf .entry)) (now (gray .entry)) in
+        ⌜ (now (table .exit) ≡ filteredErrors t (now (dots .entry))) × (r ≡ freshStats t (now (dots .entry))) ⌝ }
 {
-    let error = filter_and_square(width, height, radius, psf, gray, dots, table);
-    let count = sum(dots);
-    Stats {
-        error: error,
-        figures: Figures {
-            start_error: error,
-            start_dots: count as u64,
-            on: 0,
-            off: 0,
-            swaps: 0,
-        },
-    }
+    let squared = filter_and_square(
+        measures.width,
+        measures.height,
+        measures.radius,
+        psf,
+        gray,
+        dots,
+        table,
+    );
+    fresh(dots, squared)
 }
 
 // A start of the kind that the measures name: 0 all blank, 1 by the thresholds, 2 the dots given. That gray is made of
@@ -55,12 +42,8 @@ pub fn start(
     dots: &mut [u8],
     table: &mut [i32],
 ) -> Started
-    ensures { λ r. ⌜ started r ≡ startCall measures
-        (now (psf .entry)) (now (gray .entry)) (now (dots .entry)) (now (table .entry)) .reply ⌝ }
-    ensures { λ r. ⌜ now (dots .exit) ≡ startCall measures
-        (now (psf .entry)) (now (gray .entry)) (now (dots .entry)) (now (table .entry)) .left .dots ⌝ }
-    ensures { λ r. ⌜ now (table .exit) ≡ startCall measures
-        (now (psf .entry)) (now (gray .entry)) (now (dots .entry)) (now (table .entry)) .left .table ⌝ }
+    ensures { λ r. ⌜ Ends (startCall measures (now (psf .entry)) (now (gray .entry)) (now (dots .entry))
+        (now (table .entry))) (started r) (buffers (now (dots .exit)) (now (table .exit))) ⌝ }
     ensures { λ _. ⌜ AtMost 255 (now (gray .entry)) ⌝ }
 {
     let number = judge_start(measures, psf, gray, dots, table.len());
@@ -68,13 +51,5 @@ pub fn start(
         return Started::Refused(number);
     }
     start_dots(measures, gray, dots);
-    Started::Fresh(begin(
-        measures.width,
-        measures.height,
-        measures.radius,
-        psf,
-        gray,
-        dots,
-        table,
-    ))
+    Started::Fresh(begin_plate(measures, psf, gray, dots, table))
 }

@@ -1,10 +1,17 @@
-// The dots that a start begins with: document 01's 16 by 16 Bayer array of thresholds, and the three kinds of start.
+// What a start begins with: dots of one of the three kinds, by document 01's 16 by 16 Bayer array of thresholds where they
+// are ordered, and a fresh ledger.
 ghost use mathlib.Core.Path.{_≡_};
-ghost use Prim.Native.Nat.{_*_, _<_};
+ghost use Prim.Native.Nat.{_*_, _<_, _≤_};
 ghost use lib.ListN.{length};
 ghost use Rattle.model.specs.Basic.{tabulate};
+ghost use Rattle.model.specs.Error.{Target, squaredError, mostCells};
+ghost use Rattle.model.specs.Ledger.{freshStats};
 ghost use Rattle.model.specs.Screen.{thresholds, thresholdAt, screened, ordered, startDots};
+use model::Figures;
 use model::Measures;
+use model::Stats;
+use slices::clear_bytes;
+use slices::sum;
 
 // the thresholds, row by row
 const THRESHOLDS: [u8; 256] = *b"\
@@ -44,17 +51,6 @@ fn screen(gray: u8, threshold: u8) -> u8
     0
 }
 
-// all blank
-fn blank(dots: &mut [u8])
-    ensures { λ _. ⌜ now (dots .exit) ≡ tabulate (length (now (dots .entry))) (λ n. 0) ⌝ }
-{
-    let mut n: usize = 0;
-    while n < dots.len() {
-        dots[n] = 0;
-        n += 1;
-    }
-}
-
 // by the thresholds: cell n stands at (row, col)
 fn order(array: &[u8], width: usize, gray: &[u8], dots: &mut [u8])
     requires { ⌜ now array ≡ thresholds ⌝ }
@@ -84,8 +80,26 @@ pub fn start_dots(measures: Measures, gray: &[u8], dots: &mut [u8])
 {
     let kind = measures.start;
     match kind {
-        0 => blank(dots),
+        0 => clear_bytes(dots),
         1 => order(&THRESHOLDS, measures.width, gray, dots),
         _ => {}
+    }
+}
+
+// the fresh ledger of dots with that squared error
+pub fn fresh(dots: &[u8], squared: i64) -> Stats
+    requires { ⌜ length (now dots) ≤ mostCells ⌝ }
+    ensures { λ r. ⌜ ((t : Target) → squared ≡ squaredError t (now (dots .entry)) → r ≡ freshStats t (now (dots .entry))) ⌝ }
+{
+    let count = sum(dots);
+    Stats {
+        error: squared,
+        figures: Figures {
+            start_error: squared,
+            start_dots: count as u64,
+            on: 0,
+            off: 0,
+            swaps: 0,
+        },
     }
 }

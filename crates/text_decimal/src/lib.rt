@@ -2,15 +2,13 @@
 ghost use mathlib.Core.Path.{_≡_};
 ghost use Prim.Native.Nat.{_+_, _≤_, _<_};
 ghost use lib.ListN.{length};
-ghost use lib.Seq.{sets};
-ghost use Rattle.model.specs.Text.{digits};
+ghost use Rattle.model.specs.Text.{digits, Puts};
 
 // Puts a number at a place: its higher digits first, by the same rule, then its last digit. It answers the place after
 // it.
 pub fn put_number(out: &mut [u8], at: usize, n: usize) -> usize
     requires { ⌜ at + length (digits n) ≤ length (now out) ⌝ }
-    ensures { λ r. ⌜ r ≡ at + length (digits n) ⌝ }
-    ensures { λ _. ⌜ now (out .exit) ≡ sets (now (out .entry)) at (digits n) ⌝ }
+    ensures { λ r. ⌜ Puts (digits n) (now (out .entry)) (now (out .exit)) at r ⌝ }
 {
     if n < 10 {
         out[at] = 48 + (n as u8);

@@ -4,7 +4,7 @@ ghost use mathlib.Core.Bool.{true};
 ghost use mathlib.Core.Path.{_≡_};
 ghost use Prim.Native.Nat.{_^_, _≤_};
 ghost use lib.ListN.{length, drop};
-ghost use Rattle.model.specs.Text.{isLetter, isDigit, growTo, wordEnd, runTo, stepTo, stepAt};
+ghost use Rattle.model.specs.Text.{isLetter, isDigit, growTo, wordEnd, runTo, step, stepTo, stepAt};
 use model::Item;
 use model::Run;
 use model::Step;
@@ -75,55 +75,41 @@ fn digit_run(limit: usize, s: &[u8], at: usize) -> Run
     }
 }
 
+// an item, its place, and where it ends
+fn step_of(item: Item, at: usize, next: usize) -> Step
+    ensures { λ r. ⌜ r ≡ step item at next ⌝ }
+{
+    Step {
+        item: item,
+        at: at,
+        next: next,
+    }
+}
+
 // The item at a place.
 pub fn step_to(limit: usize, s: &[u8], at: usize) -> Step
     requires { ⌜ limit ≤ 2 ^ 63 ⌝ }
     ensures { λ r. ⌜ r ≡ stepTo limit (now (s .entry)) at ⌝ }
 {
     if s.len() <= at {
-        return Step {
-            item: Item::Other,
-            at: at,
-            next: at,
-        };
+        return step_of(Item::Other, at, at);
     }
     let b = s[at];
     if is_letter(b) {
-        let end = word_end(s, at);
-        return Step {
-            item: Item::Word,
-            at: at,
-            next: end,
-        };
+        return step_of(Item::Word, at, word_end(s, at));
     }
     if is_digit(b) {
         let run = digit_run(limit, s, at);
         let end = run.end;
         if b == 48 && at + 1 < end {
-            return Step {
-                item: Item::Other,
-                at: at + 1,
-                next: at + 1,
-            };
+            return step_of(Item::Other, at + 1, at + 1);
         }
-        return Step {
-            item: Item::Number(run.value),
-            at: at,
-            next: end,
-        };
+        return step_of(Item::Number(run.value), at, end);
     }
     if b == 10 {
-        return Step {
-            item: Item::LineEnd,
-            at: at,
-            next: at + 1,
-        };
+        return step_of(Item::LineEnd, at, at + 1);
     }
-    Step {
-        item: Item::Other,
-        at: at,
-        next: at,
-    }
+    step_of(Item::Other, at, at)
 }
 
 // The item at a place, as document 01 says it: 257 stands for every number above 256.

@@ -20,9 +20,10 @@ use Rattle.model.specs.Sheet.{Sheet, cellsOf, InRange}
 use Rattle.model.specs.Program.{sheetTarget}
 use Rattle.model.specs.Format.{body, parse, sheetOf}
 use Rattle.model.specs.Filed.{filedRoom}
-use Rattle.model.specs.FiledCalls.{verdictOf}
+use Rattle.model.specs.FiledCalls.{verdictOf, checkBuffers}
+use Rattle.model.proofs.Calls.{ends-as}
 use Rattle.filed.specs.Front.{frontOf}
-use Rattle.filed.proofs.Reading.{answered, head-refused, in-range, no-room, below-refused}
+use Rattle.filed.proofs.Reading.{head-refused, in-range, no-room, below-refused}
 use Rattle.filed.proofs.Whole.{Whole, roomy, table-long, blocks-good, figures-few, sum-refused}
 use Rattle.filed.proofs.Whole.{plate, in-fronts, checked}
 use Rattle.filed.proofs.check_filed.Statement.{statement}
@@ -57,7 +58,7 @@ module _ (c : tie.After-read-head) where
 returns : tie.Need-returns
 returns c =
     let k : tie.After-read-head = search in
-    answered (head-refused _ _ _ _ _ (h k) (k .read-head .ensures) (c .if1 .taken))
+    ends-as (head-refused _ _ _ _ _ (h k) (k .read-head .ensures) (c .if1 .taken))
 
 -- they are not refused
 module _ (c : tie.Else1) where
@@ -73,7 +74,7 @@ has-filed-room-requires c κs = range (c .before)
 returns-2 : tie.Need-returns-2
 returns-2 c =
     let e : tie.Else1 = search in
-    answered
+    ends-as
     (no-room _ _ _ _ _ (h (k e)) (k e .read-head .ensures) (e .if1 .left)
     (sym (c .before .has-filed-room .ensures) ∙ not-true _ (c .if2 .taken)))
 
@@ -95,7 +96,7 @@ returns-3 : tie.Need-returns-3
 returns-3 c =
     let j : tie.After-judge-filed = search in
     let r : tie.Else2 = j .before in
-    answered
+    ends-as
     (below-refused _ _ _ _ _ (h (b r)) (b r .read-head .ensures) (read r .if1 .left) (room r) (j .judge-filed .result)
     (j .judge-filed .ensures) (λ z. omega (arith, c .if3 .taken)))
 
@@ -130,7 +131,7 @@ psf-sum-requires c κs =
 returns-4 : tie.Need-returns-4
 returns-4 c =
     let e : tie.Else3 = search in
-    answered (sum-refused (whole e) (inl (sym (c .before .psf-sum .ensures) ∙ c .if4 .taken)))
+    ends-as (sum-refused (whole e) (inl (sym (c .before .psf-sum .ensures) ∙ c .if4 .taken)))
 
 -- the sum is not 0
 module _ (c : tie.Else4) where
@@ -142,8 +143,8 @@ module _ (c : tie.Else4) where
 
 returns-5 : tie.Need-returns-5
 returns-5 c =
-    let e : tie.Else4 = c .before in
-    answered (sum-refused (whole (n e)) (inr (omega (arith, c .if5 .taken, sum-is e))))
+    let e : tie.Else4 = search in
+    ends-as (sum-refused (whole (n e)) (inr (omega (arith, c .if5 .taken, sum-is e))))
 
 -- nor above 1,024
 module _ (c : tie.Else5) where
@@ -158,7 +159,8 @@ module _ (c : tie.Else5) where
 
 store-body-requires : tie.Need-store-body-requires
 store-body-requires c κs =
-    let w = n (e (c .before .before .before)) in
+    let v : tie.Else5 = search in
+    let w = n (e v) in
     (range (read (r w)), (blocks-good (whole w), roomy (whole w)))
 
 -- the sheet is stored
@@ -173,7 +175,7 @@ module _ (c : tie.After-store-body) where
       (c .store-body .last .1 .1 .1 .1 .1 .0) ≡ sheet w
   stands =
       let put = c .store-body .ensures in
-      (λ i. frontOf (h (b (r w)) .measures) (put .0 i) (put .1 .0 i) (put .1 .1 i))
+      (λ i. frontOf (h (b (r w)) .measures) (put i .psf) (put i .gray) (put i .dots))
       ∙ in-fronts (whole w) (low v) (high v)
 
 judge-front-requires : tie.Need-judge-front-requires
@@ -200,19 +202,17 @@ same-length-4 c = search needs
 
 returns-6 : tie.Need-returns-6
 returns-6 c =
-    let f : tie.After-judge-front = c .before in
+    let f : tie.After-judge-front = search in
     let k : tie.After-store-body = search in
-    let done = answered (checked (whole (w k)) (low (v k)) (high (v k))) in
+    let done = ends-as (checked (whole (w k)) (low (v k)) (high (v k))) in
     let put = k .store-body .ensures in
     let verdict = f .judge-front .ensures .0 ∙ ap (λ x. verdictOf x (end (w k) .figures)) (stands k) in
     let filled = f .judge-front .ensures .1
-    ∙ ap (λ x. sets (table (b (r (w k)))) 0 (filteredErrors (sheetTarget x) (x .dots))) (stands k) in (
-      ap result verdict ∙ done .0,
-      (
-        put .0 ∙ done .1 .0,
-        (put .1 .0 ∙ done .1 .1 .0, (put .1 .1 ∙ done .1 .1 .1 .0, filled ∙ done .1 .1 .1 .1)),
-      ),
-    )
+    ∙ ap (λ x. sets (table (b (r (w k)))) 0 (filteredErrors (sheetTarget x) (x .dots))) (stands k) in
+    record {
+      reply-is = ap result verdict ∙ done .reply-is;
+      left-is = (λ i. checkBuffers (put i .psf) (put i .gray) (put i .dots) (filled i)) ∙ done .left-is;
+    }
 
 pub check-filed-spec : {M : Type 1} → statement M
 check-filed-spec =

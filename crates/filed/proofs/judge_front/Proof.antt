@@ -54,7 +54,7 @@ module _ (c : tie.After-cells) where
 
 slice-aggregate-judge-plate : tie.Need-slice-aggregate-judge-plate
 slice-aggregate-judge-plate c =
-    let k : tie.After-cells = c .before in
+    let k : tie.After-cells = search in
     part-long _ (entries-are k) (s k .pre .1 .halftone .psf-fits .square)
 
 slice-aggregate-judge-plate-2 : tie.Need-slice-aggregate-judge-plate-2
@@ -88,7 +88,7 @@ same-length c = search needs
 
 returns : tie.Need-returns
 returns c =
-    let j : tie.After-judge-plate = c .before in
+    let j : tie.After-judge-plate = search in
     let k : tie.After-cells = search in (
       j .judge-plate .ensures .0 ∙ ap (λ x. verdictOf x (s k .args .f)) (lent-is k),
       put-front (s k .args .table .now) (cells-are k)

@@ -1,73 +1,48 @@
 -- `filed_judge::judge_plate` meets its contract: each verdict by its function, and the table by its filter.
-use mathlib.Core.Bool.{not}
 use mathlib.Core.List.{List}
-use mathlib.Core.Path.{_≡_, sym, _∙_, ap, subst}
-use Prim.Native.Nat.{ℕ, _*_}
+use mathlib.Core.Path.{_≡_, _∙_}
 use native.Mathlib.Omega.{arith}
 use borrow.Author.Needs.{needs}
-use lib.Dec.{eqb, lit<}
+use lib.Dec.{lit<}
 use lib.IntN.{ℤ, pos}
-use lib.ListN.{length}
 use mir.Syntax.{w64}
 use mir.Val.{toZ, ofZ}
 use Rattle.algebra.proofs.Machine.{read-back, of-cast}
-use Rattle.model.specs.Error.{Target, targetFor, squaredError}
-use Rattle.model.specs.Ledger.{unequal}
-use Rattle.model.specs.Refusal.{PlateFits, startRefusal}
-use Rattle.model.specs.FiledCalls.{rests, restingOf, verdictOf}
-use Rattle.model.proofs.Error.{filtered-long}
-use Rattle.filed_judge.proofs.Verdicts.{figure-by}
+use Rattle.model.specs.FiledCalls.{verdictOf}
+use Rattle.filed_rest.specs.Measured.{Measured}
+use Rattle.filed_judge.proofs.Verdicts.{measured-by, figure-by}
 use Rattle.filed_judge.proofs.judge_plate.Statement.{statement}
 use Rattle.filed_judge.proofs.judge_plate.Tie as tie
 
 filter-and-square-requires : tie.Need-filter-and-square-requires
-filter-and-square-requires c κs = search needs
+filter-and-square-requires c κs = let s : tie.Start = search in s .pre .0 .halftone
 
 -- once the table is filled
-module _ (c : tie.After-filter-and-square) where
+module _ (k : tie.After-filter-and-square) where
   abbrev s : tie.Start
   s = search
 
-  abbrev target : Target
-  target = targetFor (s .args .m) (s .args .psf .now) (s .args .gray .now)
+  -- the squared error as its local holds it
+  abbrev squared : ℤ
+  squared = toZ w64 (ofZ w64 (k .filter-and-square .result))
 
-  read : toZ w64 (ofZ w64 (c .filter-and-square .result)) ≡ c .filter-and-square .result
-  read = read-back w64 (c .filter-and-square .result) (c .filter-and-square .ok)
+  abbrev left : List ℤ
+  left = k .filter-and-square .last .1 .1 .1 .1 .1 .1 .0
 
-  squared-is : toZ w64 (ofZ w64 (c .filter-and-square .result)) ≡ squaredError target (s .args .dots .now)
-  squared-is = read ∙ c .filter-and-square .ensures .1
+  read : squared ≡ k .filter-and-square .result
+  read = read-back w64 (k .filter-and-square .result) (k .filter-and-square .ok)
+
+  measured : Measured (s .args .m) (s .args .psf .now) (s .args .gray .now) (s .args .dots .now) left squared
+  measured = measured-by (s .pre .0) (k .filter-and-square .ensures .0) (read ∙ k .filter-and-square .ensures .1)
 
   filed-is : toZ w64 (s .args .f .after) ≡ pos (s .args .f .after)
   filed-is = of-cast w64 (s .args .f .after) (s .pre .1 .each 1) (lit< tt) .value
 
-  figure-is : eqb (s .args .f .after) (ofZ w64 (c .filter-and-square .result))
-      ≡ not (unequal (pos (s .args .f .after)) (squaredError target (s .args .dots .now)))
-  figure-is =
-      figure-by (s .args .f .after) (c .filter-and-square .result) filed-is read
-      ∙ ap (λ z. not (unequal (pos (s .args .f .after)) z)) (c .filter-and-square .ensures .1)
-
-  abbrev Fits : ℕ → Type 0
-  Fits = PlateFits (s .args .m) (s .args .psf .now) (s .args .gray .now) (s .args .dots .now)
-
-  abbrev left : List ℤ
-  left = c .filter-and-square .last .1 .1 .1 .1 .1 .1 .0
-
-  left-long : length left ≡ s .args .m .height * s .args .m .width
-  left-long = ap length (c .filter-and-square .ensures .0) ∙ filtered-long target (s .args .dots .now)
-
 ledger-fits-requires : tie.Need-ledger-fits-requires
-ledger-fits-requires c κs =
-    let k : tie.After-filter-and-square = search in
-    let f = s k .pre .0 .halftone in
-    (subst (Fits k) (f .table-length ∙ sym (f .dots-length)) (s k .pre .0), (squared-is k, s k .pre .1))
+ledger-fits-requires c κs = let k : tie.After-filter-and-square = search in (measured k, s k .pre .1)
 
 resting-requires : tie.Need-resting-requires
-resting-requires c κs =
-    let k : tie.After-filter-and-square = search in
-    let f = s k .pre .0 .halftone in (
-      subst (Fits k) (f .table-length ∙ sym (left-long k)) (s k .pre .0),
-      (k .filter-and-square .ensures .0, squared-is k),
-    )
+resting-requires c κs = let k : tie.After-filter-and-square = search in measured k
 
 same-length : tie.Need-same-length
 same-length c = search needs
@@ -77,17 +52,16 @@ unfolding verdictOf
 returns c =
     let l : tie.After-ledger-fits = search in
     let k : tie.After-filter-and-square = search in
+    let w : tie.After-resting = search in
     let a = s k .args in
-    let rest = c .resting .ensures
-    ∙ ap (λ n. restingOf (startRefusal (a .m) (a .psf .now) (a .gray .now) (a .dots .now) n)
-    (rests (target k) (a .m .reach) (a .dots .now))) (left-long k) in (
+    let figure = figure-by (a .f .after) _ (filed-is k) (read k) (k .filter-and-square .ensures .1) in (
       λ i. record {
         measures = a .m;
         filed = filed-is k i;
-        squared = squared-is k i;
-        figure = figure-is k i;
+        squared = measured k .squared-is i;
+        figure = figure i;
         ledger = l .ledger-fits .ensures i;
-        rest = rest i;
+        rest = w .resting .ensures i;
       },
       k .filter-and-square .ensures .0,
     )

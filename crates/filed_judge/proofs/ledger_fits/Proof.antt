@@ -1,69 +1,54 @@
 -- `filed_judge::ledger_fits` meets its contract: the ledger as filed is judged by 21.
-use mathlib.Core.Path.{_≡_, sym, _∙_, subst}
+use mathlib.Core.Path.{_≡_, refl, _∙_}
 use Prim.Native.Nat.{_≤_}
 use native.Mathlib.Omega.{arith}
-use lib.IntN.{ℤ, pos}
+use lib.IntN.{pos}
 use lib.ListN.{length}
 use lib.Signed.{_≤ℤ_}
 use mir.Syntax.{w64}
 use mir.Val.{toZ, ofZ}
 use Rattle.algebra.proofs.Machine.{read-back}
-use Rattle.model.specs.Basic.{AtMost}
-use Rattle.model.specs.Error.{targetFor, mostSquared, squaredError}
-use Rattle.model.proofs.Halftone.{few-cells, squared-least, squared-most}
-use Rattle.model.proofs.State.{total≤}
+use Rattle.model.specs.Error.{targetFor, squaredError, mostCells, mostSquared}
+use Rattle.model.proofs.Halftone.{few-cells}
+use Rattle.judge_ledger.proofs.Tests.{plate-asked}
 use Rattle.filed_judge.proofs.Verdicts.{ledger-by}
 use Rattle.filed_judge.proofs.ledger_fits.Statement.{statement}
 use Rattle.filed_judge.proofs.ledger_fits.Tie as tie
 
-few : (s : tie.Start) → length (s .args .dots .now) ≤ 65536
-few s = omega (arith, few-cells (s .pre .0 .halftone), s .pre .0 .halftone .dots-length)
-
--- the squared error as its local holds it
-squared-is : (s : tie.Start)
-    → (let a = s .args in
-    toZ w64 (ofZ w64 (a .squared)) ≡ squaredError (targetFor (a .m) (a .psf .now) (a .gray .now)) (a .dots .now))
-squared-is s = read-back w64 (s .args .squared) (s .fits .squared .sfits) ∙ s .pre .1 .0
-
 sum-requires : tie.Need-sum-requires
-sum-requires c κs = few search
+sum-requires c κs =
+    let s : tie.Start = search in
+    let f = s .pre .0 .plate .halftone in omega (arith, few-cells f, f .dots-length)
 
 -- once the dots are counted
 module _ (c : tie.After-sum) where
   abbrev s : tie.Start
   s = search
 
-  -- gray is made of bytes
-  bytes : AtMost 255 (s .args .gray .now)
-  bytes = record { each = λ i. omega (arith, c .before .before .shared-slice-known2 .given i) }
+  -- the squared error as its local holds it
+  squared-is : toZ w64 (ofZ w64 (s .args .squared))
+      ≡ squaredError (targetFor (s .args .m) (s .args .psf .now) (s .args .gray .now)) (s .args .dots .now)
+  squared-is = read-back w64 (s .args .squared) (s .fits .squared .sfits) ∙ s .pre .0 .squared-is
 
-  counted-few : c .sum .result ≤ 65536
-  counted-few =
-      omega (arith, few s, c .sum .ensures, total≤ 1 (s .args .dots .now) (s .pre .0 .halftone .bits))
+  asked : (length (s .args .table .now) ≤ mostCells) × (c .sum .result ≤ mostCells)
+      × (pos 0 ≤ℤ toZ w64 (ofZ w64 (s .args .squared))) × (toZ w64 (ofZ w64 (s .args .squared)) ≤ℤ pos mostSquared)
+  asked =
+      let known : tie.After-shared-slice-known2 = search in
+      plate-asked (s .pre .0 .plate .halftone) refl
+      (record { each = λ i. omega (arith, known .shared-slice-known2 .given i) }) (c .sum .ensures) squared-is
 
 filed-stats-requires : tie.Need-filed-stats-requires
-filed-stats-requires c κs = (c .sum .ensures, counted-few c, s c .pre .1 .1)
+filed-stats-requires c κs = (c .sum .ensures, asked c .1, s c .pre .1)
 
 judge-ledger-requires : tie.Need-judge-ledger-requires
-judge-ledger-requires c κs =
-    let k : tie.After-sum = c .before in
-    let a = s k .args in
-    let e = sym (squared-is (s k)) in
-    let f = s k .pre .0 .halftone in (
-      few (s k),
-      counted-few k,
-      subst (λ z. pos 0 ≤ℤ z) e
-          (squared-least (a .m .width) (a .m .height) (a .m .radius) (a .psf .now) (a .gray .now) (a .dots .now) f),
-      subst (λ z. z ≤ℤ pos mostSquared) e
-          (squared-most (a .m .width) (a .m .height) (a .m .radius) (a .psf .now) (a .gray .now) (a .dots .now) f
-          (bytes k)),
-    )
+judge-ledger-requires c κs = let k : tie.After-sum = search in asked k
 
 returns : tie.Need-returns
 returns c =
     let k : tie.After-sum = search in
-    ledger-by _ _ _ (c .judge-ledger .ensures) (s k .pre .0 .halftone .dots-length) (squared-is (s k))
-    (k .sum .ensures) (c .before .filed-stats .ensures)
+    let f : tie.After-filed-stats = search in
+    ledger-by _ _ _ (c .judge-ledger .ensures) (s k .pre .0 .plate .halftone .table-length) (squared-is k)
+    (k .sum .ensures) (f .filed-stats .ensures)
 
 pub ledger-fits-spec : {M : Type 1} → statement M
 ledger-fits-spec = tie.close (tie.spec sum-requires filed-stats-requires judge-ledger-requires returns)

@@ -7,6 +7,7 @@ use borrow.Author.Needs.{needs}
 use lib.ListN.{length, take, replicate}
 use lib.Seq.{sets, length-take-le}
 use Rattle.model.specs.Psf.{total}
+use Rattle.model.specs.Error.{mostCells}
 use Rattle.model.specs.Text.{bytes}
 use Rattle.model.specs.Sheet.{sideOf, entriesOf}
 use Rattle.model.specs.Format.{Part, block, psfBlock, Parsed, parse}
@@ -56,7 +57,7 @@ array-share-prefix-psf c = search needs
 slice-aggregate-sum : tie.Need-slice-aggregate-sum
 slice-aggregate-sum c = sym (length-take-le _ _ (array-share-prefix-psf (c .before)))
 
-part-most : (n : ℕ) (l : List ℕ) → n ≤ length l → n ≤ 49 → length (take n l) ≤ 65536
+part-most : (n : ℕ) (l : List ℕ) → n ≤ length l → n ≤ 49 → length (take n l) ≤ mostCells
 part-most n l h k = omega (arith, length-take-le n l h)
 
 sum-requires : tie.Need-sum-requires

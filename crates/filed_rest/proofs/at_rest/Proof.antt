@@ -3,123 +3,125 @@ use mathlib.Core.List.{List, _++_}
 use mathlib.Core.Path.{_≡_, sym, _∙_, ap, subst}
 use Prim.Native.Nat.{ℕ, _≤_}
 use native.Mathlib.Omega.{arith}
-use lib.IntN.{ℤ}
-use lib.ListN.{length, take, length-append}
-use lib.Seq.{take-at}
+use lib.IntN.{ℤ, pos}
+use lib.ListN.{length, take, drop, replicate}
 use mir.Syntax.{w64}
-use mir.Val.{toZ, ofZ}
 use Rattle.algebra.proofs.Machine.{read-back}
-use Rattle.model.specs.Error.{targetFor, filteredErrors, squaredError}
-use Rattle.model.specs.Refusal.{PlateFits}
+use Rattle.model.specs.Error.{targetFor, mostCells}
 use Rattle.model.specs.FiledCalls.{rests}
 use Rattle.model.proofs.Basic.{part-whole}
 use Rattle.model.proofs.Halftone.{few-cells}
+use Rattle.slices.proofs.Fronts.{again-fits, again-whole, again-is}
+use Rattle.filed_rest.specs.Measured.{Measured}
 use Rattle.filed_rest.proofs.at_rest.Statement.{statement}
 use Rattle.filed_rest.proofs.at_rest.Tie as tie
 
-module _ (s : tie.Start) where
-  abbrev dots : List ℕ
-  dots = s .args .dots .now
-
-  abbrev table : List ℤ
-  table = s .args .table .now
-
-  few : length dots ≤ 65536
-  few = omega (arith, few-cells (s .pre .0 .halftone), s .pre .0 .halftone .dots-length)
-
-  alike : length table ≡ length dots
-  alike = s .pre .0 .halftone .table-length ∙ sym (s .pre .0 .halftone .dots-length)
-
-  -- what is asked of the plate, of dots and a table that are the same
-  abbrev Asked : List ℕ → List ℤ → Type 0
-  Asked d t =
-      let a = s .args in
-      let target = targetFor (a .m) (a .psf .now) (a .gray .now) in
-      PlateFits (a .m) (a .psf .now) (a .gray .now) d (length t)
-      × ((t ≡ filteredErrors target d) × (toZ w64 (ofZ w64 (a .squared)) ≡ squaredError target d))
-
-  asked : {d : List ℕ} {t : List ℤ} → d ≡ dots → t ≡ table → Asked d t
-  asked e f =
-      subst (λ (X : Type 0). X) (λ i. Asked (sym e i) (sym f i))
-      (s .pre .0, (s .pre .1 .0, read-back w64 (s .args .squared) (s .fits .squared .sfits) ∙ s .pre .1 .1))
+-- the cells of a plate fit into each of the arrays
+few : (s : tie.Start) → length (s .args .dots .now) ≤ mostCells
+few s = let f = s .pre .plate .halftone in omega (arith, few-cells f, f .dots-length)
 
 array-borrow-prefix-some-dots : tie.Need-array-borrow-prefix-some-dots
 array-borrow-prefix-some-dots c = few search
 
-slice-aggregate-copy-dots : tie.Need-slice-aggregate-copy-dots
-slice-aggregate-copy-dots c = part-whole _ _ (few search)
+slice-aggregate-copy-bytes : tie.Need-slice-aggregate-copy-bytes
+slice-aggregate-copy-bytes c = part-whole _ _ (few search)
 
-copy-dots-requires : tie.Need-copy-dots-requires
-copy-dots-requires c κs = sym (part-whole _ _ (few search))
+copy-bytes-requires : tie.Need-copy-bytes-requires
+copy-bytes-requires c κs = sym (part-whole _ _ (few search))
 
 array-borrow-prefix-some-table : tie.Need-array-borrow-prefix-some-table
 array-borrow-prefix-some-table c = few search
 
-slice-aggregate-copy-table : tie.Need-slice-aggregate-copy-table
-slice-aggregate-copy-table c = part-whole _ _ (few search)
+slice-aggregate-copy-numbers : tie.Need-slice-aggregate-copy-numbers
+slice-aggregate-copy-numbers c = part-whole _ _ (few search)
 
-copy-table-requires : tie.Need-copy-table-requires
-copy-table-requires c κs =
+copy-numbers-requires : tie.Need-copy-numbers-requires
+copy-numbers-requires c κs =
     let s : tie.Start = search in
-    sym (part-whole _ _ (few s)) ∙ sym (alike s)
+    let f = s .pre .plate .halftone in
+    sym (part-whole _ _ (few s)) ∙ f .dots-length ∙ sym (f .table-length)
 
--- once both are copied
-module _ (c : tie.After-copy-table) where
-  abbrev k : tie.After-copy-dots
-  k = search
+-- the arrays at first
+abbrev zero-dots : List ℕ
+zero-dots = replicate mostCells 0
 
+abbrev zero-table : List ℤ
+zero-table = replicate mostCells (pos 0)
+
+-- their fronts, lent again
+module _ (k : tie.After-copy-bytes) where
   abbrev s : tie.Start
   s = search
 
-  dots-long : length (k .copy-dots .last .1 .0) ≡ length (dots s)
-  dots-long = ap length (k .copy-dots .ensures)
+  abbrev n : ℕ
+  n = length (s .args .dots .now)
 
-  table-long : length (c .copy-table .last .1 .0) ≡ length (dots s)
-  table-long = ap length (c .copy-table .ensures) ∙ alike s
+  abbrev dots : List ℕ
+  dots = k .copy-bytes .last .1 .0
 
-  -- the parts that are lent on
-  dots-part : (l : List ℕ) → take (length (dots s)) (k .copy-dots .last .1 .0 ++ l) ≡ dots s
-  dots-part l = take-at (k .copy-dots .last .1 .0) l (length (dots s)) dots-long ∙ k .copy-dots .ensures
+  dots-long : length dots ≡ length (take n zero-dots)
+  dots-long = k .copy-bytes .kept .1 .0
 
-  table-part : (l : List ℤ) → take (length (dots s)) (c .copy-table .last .1 .0 ++ l) ≡ table s
-  table-part l = take-at (c .copy-table .last .1 .0) l (length (dots s)) table-long ∙ c .copy-table .ensures
+  dots-are : take n (dots ++ drop n zero-dots) ≡ s .args .dots .now
+  dots-are = again-is n zero-dots dots (few s) dots-long ∙ k .copy-bytes .ensures
+
+module _ (k : tie.After-copy-numbers) where
+  abbrev b : tie.After-copy-bytes
+  b = search
+
+  abbrev table : List ℤ
+  table = k .copy-numbers .last .1 .0
+
+  table-long : length table ≡ length (take (n b) zero-table)
+  table-long = k .copy-numbers .kept .1 .0
+
+  table-is : take (n b) (table ++ drop (n b) zero-table) ≡ s b .args .table .now
+  table-is = again-is (n b) zero-table table (few (s b)) table-long ∙ k .copy-numbers .ensures
 
 array-borrow-prefix-some-dots-2 : tie.Need-array-borrow-prefix-some-dots-2
-array-borrow-prefix-some-dots-2 c = simp length-append (omega (arith, dots-long (c .before)))
+array-borrow-prefix-some-dots-2 c =
+    let b : tie.After-copy-bytes = search in again-fits (n b) zero-dots (dots b) (few (s b)) (dots-long b)
 
 slice-aggregate-scans-clear : tie.Need-slice-aggregate-scans-clear
-slice-aggregate-scans-clear c = part-whole _ _ (simp length-append (omega (arith, dots-long search)))
+slice-aggregate-scans-clear c =
+    let b : tie.After-copy-bytes = search in again-whole (n b) zero-dots (dots b) (few (s b)) (dots-long b)
 
 array-borrow-prefix-some-table-2 : tie.Need-array-borrow-prefix-some-table-2
-array-borrow-prefix-some-table-2 c = simp length-append (omega (arith, table-long search))
+array-borrow-prefix-some-table-2 c =
+    let k : tie.After-copy-numbers = search in
+    again-fits (n (b k)) zero-table (table k) (few (s (b k))) (table-long k)
 
 slice-aggregate-scans-clear-2 : tie.Need-slice-aggregate-scans-clear-2
 slice-aggregate-scans-clear-2 c =
-    part-whole _ _ (simp length-append (omega (arith, table-long search)))
+    let k : tie.After-copy-numbers = search in
+    again-whole (n (b k)) zero-table (table k) (few (s (b k))) (table-long k)
 
 scans-clear-requires : tie.Need-scans-clear-requires
 scans-clear-requires c κs =
-    let b : tie.After-copy-table = search in
-    asked (s b) (dots-part b _) (table-part b _)
+    let k : tie.After-copy-numbers = search in
+    let a = s (b k) .args in
+    let back = read-back w64 (a .squared) (s (b k) .fits .squared .sfits) in
+    subst (λ (X : Type 0). X)
+    (λ i. Measured (a .m) (a .psf .now) (a .gray .now) (sym (dots-are (b k)) i) (sym (table-is k) i) (sym back i))
+    (s (b k) .pre)
 
 returns : tie.Need-returns
 returns c =
-    let k : tie.After-scans-clear = search in
-    let b : tie.After-copy-table = search in
-    let m = s b .args .m in
-    k .scans-clear .ensures
-    ∙ ap (rests (targetFor m (s b .args .psf .now) (s b .args .gray .now)) (m .reach)) (dots-part b _)
+    let w : tie.After-scans-clear = search in
+    let k : tie.After-copy-numbers = search in
+    let a = s (b k) .args in
+    w .scans-clear .ensures ∙ ap (rests (targetFor (a .m) (a .psf .now) (a .gray .now)) (a .m .reach)) (dots-are (b k))
 
 pub at-rest-spec : {M : Type 1} → statement M
 at-rest-spec =
     tie.close
     (tie.spec
     array-borrow-prefix-some-dots
-    slice-aggregate-copy-dots
-    copy-dots-requires
+    slice-aggregate-copy-bytes
+    copy-bytes-requires
     array-borrow-prefix-some-table
-    slice-aggregate-copy-table
-    copy-table-requires
+    slice-aggregate-copy-numbers
+    copy-numbers-requires
     array-borrow-prefix-some-dots-2
     slice-aggregate-scans-clear
     array-borrow-prefix-some-table-2

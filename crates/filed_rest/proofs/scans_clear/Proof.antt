@@ -1,52 +1,50 @@
 -- `filed_rest::scans_clear` meets its contract: a toggle scan that accepts something, or the swap scan after one that
 -- accepts nothing.
-use mathlib.Core.List.{List}
 use mathlib.Core.Path.{_≡_, _∙_}
-use Prim.Native.Nat.{ℕ}
 use native.Mathlib.Omega.{arith}
 use borrow.Author.Needs.{needs}
-use lib.IntN.{ℤ}
 use mir.Syntax.{w64}
 use Rattle.algebra.proofs.Machine.{read-back}
-use Rattle.model.specs.Basic.{AtMost}
-use Rattle.model.specs.State.{LaterFits}
-use Rattle.model.specs.Reference.{reference}
+use Rattle.model.specs.Error.{targetFor}
+use Rattle.model.specs.Ledger.{freshStats}
 use Rattle.model.proofs.Halftone.{few-cells}
-use Rattle.filed_rest.proofs.Clear.{fresh-later, still, not-at-rest, swaps-decide}
+use Rattle.invariants.specs.Plate.{Ready}
+use Rattle.filed_rest.proofs.Clear.{fresh-ready, still-ready, not-at-rest, swaps-decide}
 use Rattle.filed_rest.proofs.scans_clear.Statement.{statement}
 use Rattle.filed_rest.proofs.scans_clear.Tie as tie
 
 kernel-requires : tie.Need-kernel-requires
-kernel-requires c κs = search needs
+kernel-requires c κs = let s : tie.Start = search in s .pre .plate .halftone .psf-fits
 
 fresh-requires : tie.Need-fresh-requires
 fresh-requires c κs =
     let s : tie.Start = search in
-    let f = s .pre .0 .halftone in (
-      omega (arith, few-cells f, f .dots-length),
-      read-back w64 (s .args .squared) (s .fits .squared .sfits) ∙ s .pre .1 .1,
-    )
+    let f = s .pre .plate .halftone in omega (arith, few-cells f, f .dots-length)
 
 slice-aggregate-toggle-all : tie.Need-slice-aggregate-toggle-all
 slice-aggregate-toggle-all c = search needs
 
 -- once the ledger is made
-module _ (c : tie.After-fresh) where
+module _ (f : tie.After-fresh) where
   abbrev s : tie.Start
   s = search
 
-  -- gray is made of bytes
-  bytes : AtMost 255 (s .args .gray .now)
-  bytes = record { each = λ i. omega (arith, c .before .before .before .before .shared-slice-known2 .given i) }
+  abbrev k : tie.After-kernel
+  k = search
 
-  fits : LaterFits (s .args .m) (s .args .psf .now) (s .args .gray .now) (s .args .dots .now) (s .args .table .now)
-      (c .fresh .result)
-  fits = fresh-later _ _ _ _ (c .fresh .ensures) bytes (s .pre .0) (s .pre .1 .0)
+  made : f .fresh .result
+      ≡ freshStats (targetFor (s .args .m) (s .args .psf .now) (s .args .gray .now)) (s .args .dots .now)
+  made = f .fresh .ensures _ (read-back w64 (s .args .squared) (s .fits .squared .sfits) ∙ s .pre .squared-is)
+
+  ready : Ready (s .args .m) (s .args .psf .now) (s .args .gray .now) (k .kernel .result) (s .args .dots .now)
+      (s .args .table .now) (f .fresh .result)
+  ready =
+      let known : tie.After-shared-slice-known2 = search in
+      fresh-ready _ _ _ _ made (s .pre) (k .kernel .ensures)
+      (record { each = λ i. omega (arith, known .shared-slice-known2 .given i) })
 
 toggle-all-requires : tie.Need-toggle-all-requires
-toggle-all-requires c κs =
-    let f : tie.After-fresh = search in
-    (fits f, f .before .before .kernel .ensures)
+toggle-all-requires c κs = let f : tie.After-fresh = search in ready f
 
 same-length : tie.Need-same-length
 same-length c = search needs
@@ -58,28 +56,7 @@ returns : tie.Need-returns
 returns c =
     let a : tie.After-toggle-all = search in
     let f : tie.After-fresh = search in
-    not-at-rest (s f .args .m) _ _ _ (f .fresh .ensures) (a .toggle-all .ensures .0) _ (c .if1 .taken)
-
--- where the toggle scan accepts nothing
-module _ (c : tie.Else1) where
-  abbrev a : tie.After-toggle-all
-  a = search
-
-  abbrev f : tie.After-fresh
-  f = search
-
-  abbrev left : List ℕ
-  left = a .toggle-all .last .1 .1 .1 .1 .0
-
-  abbrev left-table : List ℤ
-  left-table = a .toggle-all .last .1 .1 .1 .1 .1 .0
-
-  same : LaterFits (s f .args .m) (s f .args .psf .now) (s f .args .gray .now) left left-table
-      (a .toggle-all .result .stats)
-      × (reference left (a .toggle-all .result .stats) ≡ reference (s f .args .dots .now) (f .fresh .result))
-  same =
-      still _ _ _ _ (f .fresh .ensures) (a .toggle-all .ensures .0) (fits f) (c .if1 .left)
-      (a .toggle-all .ensures .1 .0) (a .toggle-all .ensures .1 .1)
+    not-at-rest (s f .args .m) _ _ _ (made f) (a .toggle-all .ensures) _ (c .if1 .taken)
 
 slice-aggregate-swap-all : tie.Need-slice-aggregate-swap-all
 slice-aggregate-swap-all c = search needs
@@ -87,7 +64,9 @@ slice-aggregate-swap-all c = search needs
 swap-all-requires : tie.Need-swap-all-requires
 swap-all-requires c κs =
     let e : tie.Else1 = search in
-    (same e .0, f e .before .before .kernel .ensures)
+    let a : tie.After-toggle-all = search in
+    let f : tie.After-fresh = search in
+    still-ready _ _ _ _ (made f) (a .toggle-all .ensures) (e .if1 .left) (ready f)
 
 same-length-3 : tie.Need-same-length-3
 same-length-3 c = search needs
@@ -99,8 +78,9 @@ returns-2 : tie.Need-returns-2
 returns-2 c =
     let w : tie.After-swap-all = search in
     let e : tie.Else1 = search in
-    swaps-decide (s (f e) .args .m) _ _ _ (f e .fresh .ensures) (a e .toggle-all .ensures .0) _ (e .if1 .left)
-    (same e .1) (w .swap-all .ensures .0)
+    let a : tie.After-toggle-all = search in
+    let f : tie.After-fresh = search in
+    swaps-decide (s f .args .m) _ _ _ (made f) (a .toggle-all .ensures) _ (e .if1 .left) (w .swap-all .ensures)
 
 pub scans-clear-spec : {M : Type 1} → statement M
 scans-clear-spec =

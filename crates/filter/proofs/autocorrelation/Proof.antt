@@ -1,9 +1,9 @@
 -- `filter::autocorrelation` meets its contract: refused with the judge's number, or done.
 use borrow.Author.Needs.{needs}
-use mathlib.Core.Path.{sym, _∙_}
+use mathlib.Core.Path.{refl, sym, _∙_}
 use Rattle.model.specs.Calls.{autocorrelationCall}
 use Rattle.model.proofs.Refusal.{autocorrelation-fits}
-use Rattle.model.proofs.Calls.{is-refused, is-done}
+use Rattle.model.proofs.Calls.{ends-refused, ends-done}
 use Rattle.filter.proofs.autocorrelation.Statement.{statement}
 use Rattle.filter.proofs.autocorrelation.Tie as tie
 
@@ -12,11 +12,12 @@ judge-autocorrelation-requires c κs = search needs
 
 returns : tie.Need-returns
 unfolding autocorrelationCall
-returns c = is-refused _ _ _ (c .before .judge-autocorrelation .ensures) (c .if1 .taken)
+returns c = ends-refused _ _ _ (c .before .judge-autocorrelation .ensures) (c .if1 .taken)
 
 autocorrelate-requires : tie.Need-autocorrelate-requires
 autocorrelate-requires c κs =
-    autocorrelation-fits _ _ _ (sym (c .before .before .judge-autocorrelation .ensures) ∙ c .before .if1 .left)
+    let e : tie.Else1 = search in
+    autocorrelation-fits _ _ _ (sym (e .before .judge-autocorrelation .ensures) ∙ e .if1 .left)
 
 same-length : tie.Need-same-length
 same-length c = search needs
@@ -24,8 +25,9 @@ same-length c = search needs
 returns-2 : tie.Need-returns-2
 unfolding autocorrelationCall
 returns-2 c =
-    let e = c .before .before .before in
-    is-done _ _ _ (sym (e .before .judge-autocorrelation .ensures) ∙ e .if1 .left) (c .before .autocorrelate .ensures)
+    let e : tie.Else1 = search in
+    let taken = sym (e .before .judge-autocorrelation .ensures) ∙ e .if1 .left in
+    ends-done _ _ _ taken (record { reply-is = refl; left-is = (c .before .autocorrelate .ensures) })
 
 pub autocorrelation-spec : {M : Type 1} → statement M
 autocorrelation-spec =

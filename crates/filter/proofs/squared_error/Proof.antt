@@ -22,17 +22,16 @@ slice-aggregate-square c = search needs
 
 square-requires : tie.Need-square-requires
 square-requires c κs =
-    (halftone-fits _ _ _ _ _ _ _ (sym (c .before .before .judge-halftone .ensures) ∙ c .before .if1 .left), lit≤ tt)
+    let e : tie.Else1 = search in
+    (halftone-fits _ _ _ _ _ _ _ (sym (e .before .judge-halftone .ensures) ∙ e .if1 .left), lit≤ tt)
 
 returns-2 : tie.Need-returns-2
 unfolding squaredErrorCall
 returns-2 c =
+    let e : tie.Else1 = search in
+    let taken = sym (halftone-again _ _ _ _ _ _) ∙ sym (e .before .judge-halftone .ensures) ∙ e .if1 .left in
     ap result (read-back w64 (c .before .square .result) (c .before .square .ok) ∙ c .before .square .ensures)
-    ∙ is-done tt _ _
-    (sym (halftone-again _ _ _ _ _ _)
-    ∙ sym (c .before .before .before .before .judge-halftone .ensures)
-    ∙ c .before .before .before .if1 .left)
-    refl .0
+    ∙ is-done tt _ _ taken refl .0
 
 pub squared-error-spec : {M : Type 1} → statement M
 squared-error-spec =

@@ -1,4 +1,4 @@
--- `filter_sums::kernel` meets its contract: the autocorrelation is put into the front of an array of zeros.
+-- `filter_correlate::kernel` meets its contract: the autocorrelation is put into the front of an array of zeros.
 use mathlib.Core.Path.{sym}
 use Prim.Native.Nat.{_+_, _*_, _≤_}
 use native.Mathlib.Nat.{mul-le-mul, lt-of-le-of-lt}
@@ -7,7 +7,7 @@ use borrow.Author.Needs.{needs}
 use lib.Dec.{lit<}
 use lib.IntN.{pos}
 use lib.ListN.{drop, replicate}
-use Rattle.model.proofs.Window.{small-rest}
+use Rattle.invariants.proofs.Window.{small-rest}
 use Rattle.model.proofs.Basic.{part-whole}
 use Rattle.filter_correlate.proofs.Scatter.{front-holds}
 use Rattle.filter_correlate.proofs.kernel.Statement.{statement}
@@ -30,14 +30,14 @@ array-borrow-prefix-c : tie.Need-array-borrow-prefix-c
 array-borrow-prefix-c c = few (c .before)
 
 slice-aggregate-autocorrelate : tie.Need-slice-aggregate-autocorrelate
-slice-aggregate-autocorrelate c = part-whole _ _ (few (c .before .before))
+slice-aggregate-autocorrelate c = let s : tie.Start = search in part-whole _ _ (few s)
 
 autocorrelate-requires : tie.Need-autocorrelate-requires
-autocorrelate-requires c κs = (c .before .before .pre, sym (part-whole _ _ (few (c .before .before))))
+autocorrelate-requires c κs = let s : tie.Start = search in (s .pre, sym (part-whole _ _ (few s)))
 
 returns : tie.Need-returns
 returns c =
-    let s = c .before .before .before .before in
+    let s : tie.Start = search in
     let n = (4 * s .args .radius + 1) * (4 * s .args .radius + 1) in
     front-holds (s .args .radius) (s .args .psf .now) (drop n (replicate 169 (pos 0))) (s .pre)
     (c .before .autocorrelate .ensures) (small-rest n 169)

@@ -1,4 +1,4 @@
--- `filter_sums::widen` meets its contract: the entries passed are the bytes.
+-- `filter_correlate::widen` meets its contract: the entries passed are the bytes.
 use Prim.Native.Nat.{_≤_, _-_}
 use native.Mathlib.Omega.{arith}
 use mathlib.Core.Path.{sym, _∙_}
@@ -24,13 +24,17 @@ shared-slice-read-out : tie.Need-shared-slice-read-out Inv-loop μ-loop
 shared-slice-read-out c = omega arith
 
 cast-out : tie.Need-cast-out Inv-loop μ-loop
-cast-out c = record { sfits = omega (arith, c .shared-slice-known .given (c .before .before .loop .i)) }
+cast-out c =
+    let l : tie.At-loop Inv-loop μ-loop = search in
+    record { sfits = omega (arith, c .shared-slice-known .given (l .loop .i)) }
 
 mul-t4 : tie.Need-mul-t4 Inv-loop μ-loop
 mul-t4 c = omega arith
 
 slice-set-from-out : tie.Need-slice-set-from-out Inv-loop μ-loop
-slice-set-from-out c = omega (arith, c .before .before .loop .inv .1 .long)
+slice-set-from-out c =
+    let l : tie.At-loop Inv-loop μ-loop = search in
+    omega (arith, l .loop .inv .1 .long)
 
 add-i : tie.Need-add-i Inv-loop μ-loop
 add-i c = omega arith
@@ -40,18 +44,19 @@ loop-less c = omega arith
 
 loop-again : tie.Need-loop-again Inv-loop μ-loop
 loop-again c =
-    let i = c .before .before .loop .i in
-    let bytes = c .before .before .before .args .bytes .now in
-    let byte = of-cast w32 (getD bytes i 0) {k = 255} (omega (arith, c .shared-slice-known .given i)) (lit< tt) in
-    (omega arith, fill-next (c .before .before .loop .inv .1) (omega arith) (byte .value))
+    let l : tie.At-loop Inv-loop μ-loop = search in
+    let bytes = l .before .args .bytes .now in
+    let low = c .shared-slice-known .given (l .loop .i) in
+    let byte = of-cast w32 (getD bytes (l .loop .i) 0) {k = 255} (omega (arith, low)) (lit< tt) in
+    (omega arith, fill-next (l .loop .inv .1) (omega arith) (byte .value))
 
 same-length : tie.Need-same-length Inv-loop μ-loop
 same-length c = omega (arith, c .before .loop .inv .1 .long)
 
 returns : tie.Need-returns Inv-loop μ-loop
 returns c =
-    fill-all (c .before .loop .inv .1) (omega arith)
-    ∙ sym (map-tabulate pos 0 (c .before .before .args .bytes .now))
+    let s : tie.Start Inv-loop μ-loop = search in
+    fill-all (c .before .loop .inv .1) (omega arith) ∙ sym (map-tabulate pos 0 (s .args .bytes .now))
 
 pub widen-spec : {M : Type 1} → statement M
 widen-spec =

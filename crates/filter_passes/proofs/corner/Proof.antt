@@ -1,5 +1,5 @@
--- `filter_sums::corner` meets its contract: the entry's row and column are below the psf's side, so nothing wraps.
-use Prim.Native.Nat.{_+_, _*_, _/_, _%_, _≤_, _<_}
+-- `filter_passes::corner` meets its contract: the entry's row and column are below the psf's side, so nothing wraps.
+use Prim.Native.Nat.{_+_, _*_, _/_, _%_, _≤_}
 use native.Mathlib.Nat.{mul-le-mul}
 use native.Mathlib.Omega.{arith}
 use borrow.Author.Needs.{needs}
@@ -7,20 +7,20 @@ use Rattle.algebra.proofs.Grid.{row<, column<}
 use Rattle.filter_passes.proofs.corner.Statement.{statement}
 use Rattle.filter_passes.proofs.corner.Tie as tie
 
--- the entry's row and column
-module _ (c : tie.Start) where
-  some : 0 < 2 * c .args .radius + 1
-  some = omega arith
+-- how far the entry moves the plate
+module _ (s : tie.Start) where
+  down : s .args .k / (2 * s .args .radius + 1) * s .args .f .moves ≤ 6
+  down =
+      let entry = row< (s .args .k) {W = 2 * s .args .radius + 1} (omega arith) (s .pre .3) in
+      mul-le-mul {n₂ = 6} {m₂ = 1} (omega (arith, entry)) (s .pre .2)
 
-  entry-row : c .args .k / (2 * c .args .radius + 1) < 2 * c .args .radius + 1
-  entry-row = row< (c .args .k) some (c .pre .2)
+  rows-down : s .args .k / (2 * s .args .radius + 1) * s .args .f .moves * s .args .f .span ≤ 1572
+  rows-down = mul-le-mul {n₂ = 6} {m₂ = 262} down (s .pre .1)
 
-  entry-column : c .args .k % (2 * c .args .radius + 1) < 2 * c .args .radius + 1
-  entry-column = column< (c .args .k) some
-
-  -- the first cell of its row in the widened plate
-  row-start : c .args .k / (2 * c .args .radius + 1) * (c .args .width + 2 * c .args .radius) ≤ 1572
-  row-start = mul-le-mul {n₂ = 6} {m₂ = 262} (omega (arith, entry-row)) (omega arith)
+  along : s .args .k % (2 * s .args .radius + 1) * s .args .f .moves ≤ 6
+  along =
+      let entry = column< (s .args .k) {W = 2 * s .args .radius + 1} (omega arith) in
+      mul-le-mul {n₂ = 6} {m₂ = 1} (omega (arith, entry)) (s .pre .2)
 
 mul-side : tie.Need-mul-side
 mul-side c = search needs
@@ -32,19 +32,19 @@ div-result : tie.Need-div-result
 div-result c = search needs
 
 mul-result : tie.Need-mul-result
-mul-result c = search needs
-
-add-result : tie.Need-add-result
-add-result c = search needs
+mul-result c = let s : tie.Start = search in omega (arith, down s)
 
 mul-result-2 : tie.Need-mul-result-2
-mul-result-2 c = omega (arith, row-start c)
+mul-result-2 c = let s : tie.Start = search in omega (arith, rows-down s)
 
 rem-result : tie.Need-rem-result
 rem-result c = search needs
 
-add-result-2 : tie.Need-add-result-2
-add-result-2 c = omega (arith, row-start c, entry-column c)
+mul-result-3 : tie.Need-mul-result-3
+mul-result-3 c = let s : tie.Start = search in omega (arith, along s)
+
+add-result : tie.Need-add-result
+add-result c = let s : tie.Start = search in omega (arith, rows-down s, along s)
 
 returns : tie.Need-returns
 returns c = search needs
@@ -57,8 +57,8 @@ corner-spec =
     add-side
     div-result
     mul-result
-    add-result
     mul-result-2
     rem-result
-    add-result-2
+    mul-result-3
+    add-result
     returns)

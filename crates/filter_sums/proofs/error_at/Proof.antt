@@ -30,23 +30,30 @@ shared-slice-read-result-2 : tie.Need-shared-slice-read-result-2
 shared-slice-read-result-2 c = search needs
 
 cast-result-2 : tie.Need-cast-result-2
-cast-result-2 c = record { sfits = omega (arith, c .shared-slice-known2 .given (c .before .before .args .n)) }
+cast-result-2 c =
+    let s : tie.Start = search in
+    record { sfits = omega (arith, c .shared-slice-known2 .given (s .args .n)) }
 
 -- and the gray
 module _ (c : tie.After-shared-slice-known2) where
-  gray : Holds w32 (getD (c .before .before .args .gray .now) (c .before .before .args .n) 0)
-      (pos (getD (c .before .before .args .gray .now) (c .before .before .args .n) 0)) 255
-  gray = of-cast w32 _ (omega (arith, c .shared-slice-known2 .given (c .before .before .args .n))) (lit< tt)
+  s : tie.Start
+  s = search
+
+  gray : Holds w32 (getD (s .args .gray .now) (s .args .n) 0) (pos (getD (s .args .gray .now) (s .args .n) 0)) 255
+  unfolding s
+  gray = of-cast w32 _ (omega (arith, c .shared-slice-known2 .given (s .args .n))) (lit< tt)
 
 sub-result : tie.Need-sub-result
+unfolding s
 sub-result c = sub-fits (mul-holds (literal w32 255 tt) (dot (c .before)) (lit< tt)) (gray c) (lit< tt)
 
 returns : tie.Need-returns
+unfolding s
 returns c =
-    let d = getD (c .before .before .args .dots .now) (c .before .before .args .n) 0 in
-    let g = getD (c .before .before .args .gray .now) (c .before .before .args .n) 0 in
+    let d = getD (s c .args .dots .now) (s c .args .n) 0 in
+    let g = getD (s c .args .gray .now) (s c .args .n) 0 in
     let e = sub-holds (mul-holds (literal w32 255 tt) (dot (c .before)) (lit< tt)) (gray c) (lit< tt) in
-    let byte = c .shared-slice-known2 .given (c .before .before .args .n) in
+    let byte = c .shared-slice-known2 .given (s c .args .n) in
     (e .value, rw (e .value) (apart (255 * d) g (omega arith) (omega (arith, byte))))
 
 pub error-at-spec : {M : Type 1} → statement M

@@ -20,18 +20,19 @@ abbrev μ-loop : tie.MeasureT-loop
 μ-loop gray dots out₀ n₀ out n = length gray - n
 
 loop-holds : tie.Need-loop-holds Inv-loop μ-loop
-loop-holds c = (omega arith, fill-none (c .before .before .pre .1))
+loop-holds c = let s : tie.Start Inv-loop μ-loop = search in (omega arith, fill-none (s .pre .long))
 
 error-at-requires : tie.Need-error-at-requires Inv-loop μ-loop
 error-at-requires c κs =
-    let s = c .before .before .before .before in
-    (omega arith, omega arith, s .pre .2 .each (c .before .loop .n))
+    let s : tie.Start Inv-loop μ-loop = search in
+    let p = s .pre in
+    (omega arith, omega (arith, p .dots-long), p .bits .each (c .before .loop .n))
 
 mul-e : tie.Need-mul-e Inv-loop μ-loop
 mul-e c = omega arith
 
 slice-set-from-e : tie.Need-slice-set-from-e Inv-loop μ-loop
-slice-set-from-e c = omega (arith, c .before .before .loop .inv .1 .long)
+slice-set-from-e c = let l : tie.At-loop Inv-loop μ-loop = search in omega (arith, l .loop .inv .1 .long)
 
 add-n : tie.Need-add-n Inv-loop μ-loop
 add-n c = omega arith
@@ -41,11 +42,12 @@ loop-less c = omega arith
 
 loop-again : tie.Need-loop-again Inv-loop μ-loop
 loop-again c =
+    let l : tie.At-loop Inv-loop μ-loop = search in
     let e = of-small w32 (c .error-at .result) (c .error-at .ensures .1) (lit< tt) in
-    (omega arith, fill-next (c .before .before .loop .inv .1) (omega arith) (e .value ∙ c .error-at .ensures .0))
+    (omega arith, fill-next (l .loop .inv .1) (omega arith) (e .value ∙ c .error-at .ensures .0))
 
 same-length : tie.Need-same-length Inv-loop μ-loop
-same-length c = c .before .loop .inv .1 .long ∙ sym (c .before .before .before .before .pre .1)
+same-length c = let s : tie.Start Inv-loop μ-loop = search in c .before .loop .inv .1 .long ∙ sym (s .pre .long)
 
 returns : tie.Need-returns Inv-loop μ-loop
 returns c = fill-all (c .before .loop .inv .1) (omega arith)

@@ -4,6 +4,7 @@ use Prim.Native.Nat.{_≤_}
 use native.Mathlib.Omega.{arith}
 use mathlib.Core.Path.{subst}
 use lib.ListN.{length}
+use Rattle.model.specs.Error.{targetOf}
 use Rattle.model.specs.Refusal.{HalftoneFits}
 use Rattle.model.proofs.Halftone.{few-cells}
 use Rattle.model.proofs.Basic.{part-whole}
@@ -15,16 +16,16 @@ held : (c : tie.Start) → length (c .args .gray .now) ≤ length (c .args .scra
 held c = let f = c .pre .0 in omega (arith, few-cells f, f .gray-length)
 
 slice-relend-prefix-filter-and-square : tie.Need-slice-relend-prefix-filter-and-square
-slice-relend-prefix-filter-and-square c = held (c .before .before .before)
+slice-relend-prefix-filter-and-square c = let s : tie.Start = search in held s
 
 slice-aggregate-filter-and-square : tie.Need-slice-aggregate-filter-and-square
-slice-aggregate-filter-and-square c = part-whole _ _ (held (c .before .before .before .before))
+slice-aggregate-filter-and-square c = let s : tie.Start = search in part-whole _ _ (held s)
 
 filter-and-square-requires : tie.Need-filter-and-square-requires
 filter-and-square-requires c κs =
-    let s = c .before .before .before .before in
+    let s : tie.Start = search in
     let a = s .args in
-    subst (HalftoneFits (a .width) (a .height) (a .radius) (a .psf .now) (a .gray .now) (a .dots .now))
+    subst (HalftoneFits (targetOf (a .width) (a .height) (a .radius) (a .psf .now) (a .gray .now)) (a .dots .now))
     (part-whole _ _ (held s)) (s .pre .0)
 
 same-length : tie.Need-same-length

@@ -1,5 +1,5 @@
--- `filter_window::add_run` meets its contract. The loop's invariant: a run of k entries is added. The measure is what is left
--- of n. Each sum is of two numbers of at most `mostFiltered`, so it fits.
+-- `filter_window::add_run` meets its contract. The loop's invariant: a run of k entries is added. The measure is what
+-- is left of n. Each sum is of two numbers of at most `mostFiltered`, so it fits.
 use mathlib.Core.Path.{_≡_, refl}
 use Prim.Native.Nat.{_+_, _-_, _≤_}
 use native.Mathlib.Nat.{le-refl}
@@ -11,7 +11,7 @@ use mir.Syntax.{w32}
 use mir.Val.{ofZ, toZ}
 use mir.Facts.{toZ-ofZ}
 use Rattle.algebra.proofs.Machine.{Holds, of-small, product-fits, product-holds, add-fits, add-holds}
-use Rattle.model.specs.Window.{mostFiltered}
+use Rattle.model.specs.Error.{mostFiltered}
 use Rattle.filter_window.specs.Run.{Ran}
 use Rattle.filter_window.proofs.Run.{run-start, run-next}
 use Rattle.filter_window.proofs.add_run.Statement.{statement}
@@ -46,11 +46,11 @@ shared-slice-copy-out-sum c = omega arith
 
 -- in a turn: the amount, the entry of c, their product and the table's entry, as the locals hold them
 module _ (c : tie.After-sum2 Inv-loop μ-loop) where
-  abbrev s : tie.Start Inv-loop μ-loop
-  s = c .before .before .before .before
+  s : tie.Start Inv-loop μ-loop
+  s = search
 
-  abbrev l : tie.At-loop Inv-loop μ-loop
-  l = c .before .before .before
+  l : tie.At-loop Inv-loop μ-loop
+  l = search
 
   abbrev a : ℤ
   a = toZ w32 (ofZ w32 (s .args .amount))
@@ -62,6 +62,7 @@ module _ (c : tie.After-sum2 Inv-loop μ-loop) where
   factor = record { value = refl; size = le-refl _ }
 
   number : Holds w32 (ofZ w32 x) x (natAbs x)
+  unfolding s l
   number = record { value = toZ-ofZ (record { sfits = c .sum2 .given }); size = le-refl _ }
 
   scaled : natAbs (a *ℤ x) ≤ mostFiltered
@@ -72,12 +73,15 @@ module _ (c : tie.After-sum2 Inv-loop μ-loop) where
 
   entry : Holds w32 (ofZ w32 (getD (l .loop .table) (s .args .at + l .loop .k) (pos 0)))
       (getD (s .args .table .now) (s .args .at + l .loop .k) (pos 0)) mostFiltered
+  unfolding s l
   entry = rw (l .loop .inv .0 .beyond _ (le-refl _)) (of-small w32 _ (s .pre .1 .0 _ (omega arith)) (lit< tt))
 
 mul-sum-3 : tie.Need-mul-sum-3 Inv-loop μ-loop
+unfolding s l
 mul-sum-3 c = product-fits (factor c) (number c) (scaled c) (lit< tt)
 
 add-sum : tie.Need-add-sum Inv-loop μ-loop
+unfolding s l
 add-sum c = add-fits (entry c) (product c) (lit< tt)
 
 mul-sum-4 : tie.Need-mul-sum-4 Inv-loop μ-loop
@@ -93,6 +97,7 @@ loop-less : tie.Need-loop-less Inv-loop μ-loop
 loop-less c = omega arith
 
 loop-again : tie.Need-loop-again Inv-loop μ-loop
+unfolding s l
 loop-again c =
     (run-next (l c .loop .inv .0) _ (add-holds (entry c) (product c) (lit< tt) .value) (omega arith), omega arith)
 
@@ -101,8 +106,9 @@ same-length c = omega arith
 
 returns : tie.Need-returns Inv-loop μ-loop
 returns c =
-    let k : c .before .loop .k ≡ c .before .before .args .n = omega arith in
-    rw (toZ-ofZ (c .before .before .fits .amount), k) at (c .before .loop .inv .0)
+    let s : tie.Start Inv-loop μ-loop = search in
+    let k : c .before .loop .k ≡ s .args .n = omega arith in
+    rw (toZ-ofZ (s .fits .amount), k) at (c .before .loop .inv .0)
 
 pub add-run-spec : {M : Type 1} → statement M
 add-run-spec =

@@ -1,7 +1,7 @@
--- `filter_window::add_window` meets its contract. The loop's invariant: the window is added to the rows above y. The measure
--- is what is left of the rows.
-use mathlib.Core.Path.{sym, _∙_}
-use Prim.Native.Nat.{_-_, _≤_}
+-- `filter_window::add_window` meets its contract. The loop's invariant: the window is added to the rows above y. The
+-- measure is what is left of the rows.
+use mathlib.Core.Path.{_≡_, sym, _∙_}
+use Prim.Native.Nat.{_+_, _-_, _≤_, _<_, min}
 use native.Mathlib.Nat.{le-of-eq}
 use native.Mathlib.Omega.{arith}
 use borrow.Author.Needs.{needs}
@@ -14,11 +14,11 @@ use Rattle.filter_window.proofs.add_window.Statement.{statement}
 use Rattle.filter_window.proofs.add_window.Tie as tie
 
 abbrev Inv-loop : tie.InvT-loop
-Inv-loop table₀ width height row col reach c amount left right bottom side n y₀ table y =
-    (row - reach ≤ y) × Rows width reach row col c (toZ w32 amount) y table₀ table
+Inv-loop table₀ width height at reach c amount left right bottom side n y₀ table y =
+    (at .row - reach ≤ y) × Rows width reach (at .row) (at .col) c (toZ w32 amount) y table₀ table
 
 abbrev μ-loop : tie.MeasureT-loop
-μ-loop table₀ width height row col reach c amount left right bottom side n y₀ table y = bottom - y
+μ-loop table₀ width height at reach c amount left right bottom side n y₀ table y = bottom - y
 
 low-requires : tie.Need-low-requires Inv-loop μ-loop
 low-requires c κs = search needs
@@ -44,11 +44,11 @@ low-requires-2 c κs = search needs
 loop-holds : tie.Need-loop-holds Inv-loop μ-loop
 loop-holds c = (omega arith, rw (c .low2 .ensures) (rows-start _ _ _ _ _ _))
 
-mul-at : tie.Need-mul-at Inv-loop μ-loop
-mul-at c = factors-fit 262 256 (omega arith) (omega arith) tt
+mul-to : tie.Need-mul-to Inv-loop μ-loop
+mul-to c = factors-fit 262 256 (omega arith) (omega arith) tt
 
-add-at : tie.Need-add-at Inv-loop μ-loop
-add-at c = index-fits _ _ _ (omega arith) (omega arith) (omega arith)
+add-to : tie.Need-add-to Inv-loop μ-loop
+add-to c = index-fits _ _ _ (omega arith) (omega arith) (omega arith)
 
 add-from : tie.Need-add-from Inv-loop μ-loop
 add-from c = omega arith
@@ -70,8 +70,9 @@ add-from-3 c = index-fits _ _ _ (omega arith) (omega arith) (omega arith)
 
 add-run-requires : tie.Need-add-run-requires Inv-loop μ-loop
 add-run-requires c κs =
-    let s = c .before .before .before .before .before .before .before in
-    let r = c .before .before .loop .inv .1 in (
+    let s : tie.Start Inv-loop μ-loop = search in
+    let l : tie.At-loop Inv-loop μ-loop = search in
+    let r = l .loop .inv .1 in (
       (
         run-ends _ _ _ (omega arith) (omega arith) (le-of-eq (sym (r .long ∙ s .pre .1 .0 .0))),
         run-ends _ _ _ (omega arith) (omega arith) (s .pre .1 .0 .1),
@@ -87,18 +88,27 @@ loop-less c = omega arith
 
 loop-again : tie.Need-loop-again Inv-loop μ-loop
 loop-again c =
-    let l = c .before .before .before .before in
-    let left = l .before .before .before .before .low .ensures in
-    let right = l .before .before .before .high .ensures in
-    let run = c .before .add-run .ensures in
-    (omega arith, rows-next _ _ _ _ _ _ (omega arith) (omega arith) (omega arith) left right (l .loop .inv .1) run)
+    let t : tie.In-loop Inv-loop μ-loop = search in
+    let s : tie.Start Inv-loop μ-loop = search in
+    let left : tie.After-low Inv-loop μ-loop = search in
+    let right : tie.After-high Inv-loop μ-loop = search in
+    let bottom : tie.After-high2 Inv-loop μ-loop = search in
+    let l = t .before .loop in
+    let a = s .args in
+    let last : bottom .high2 .result ≡ min (a .at .row + a .reach + 1) (a .height) = bottom .high2 .ensures in
+    let here : l .y < bottom .high2 .result = t .loop-test .taken in
+    let under : l .y ≤ a .at .row + a .reach = omega (arith, last, here) in (
+      omega arith,
+      rows-next _ _ _ _ _ _ (omega arith) under (omega arith) (left .low .ensures) (right .high .ensures) (l .inv .1)
+          (c .before .add-run .ensures),
+    )
 
 same-length : tie.Need-same-length Inv-loop μ-loop
 same-length c = omega arith
 
 returns : tie.Need-returns Inv-loop μ-loop
 returns c =
-    let s = c .before .before .before .before .before .before in
+    let s : tie.Start Inv-loop μ-loop = search in
     let rows = c .before .loop .inv .1 in
     rw (toZ-ofZ (s .fits .amount)) at
     (rows-end _ _ _ _ _ _ (s .args .height) (omega arith) (s .pre .1 .0 .0) (omega arith) rows)
@@ -117,8 +127,8 @@ add-window-spec =
     sub-n
     low-requires-2
     loop-holds
-    mul-at
-    add-at
+    mul-to
+    add-to
     add-from
     sub-from
     mul-from

@@ -3,7 +3,8 @@ use mathlib.Core.Bool.{Bool, true, false, _||_}
 use mathlib.Core.List.{[], _∷_}
 use mathlib.Core.Path.{_≡_, refl, _∙_, ap₂}
 use borrow.Author.Needs.{needs}
-use Rattle.model.specs.Refusal.{_when_, firstOf, either, off}
+use Rattle.model.specs.Refusal.{_when_, firstOf, off}
+use Rattle.invariants.specs.Refusal.{either}
 use Rattle.judge_cells.proofs.judge_cells.Statement.{statement}
 use Rattle.judge_cells.proofs.judge_cells.Tie as tie
 
@@ -23,10 +24,13 @@ by-either-cell false b = refl
 
 returns : tie.Need-returns
 returns c =
+    let s : tie.Start = search in
+    let one : tie.After-judge-cell = search in
+    let a = s .args in
     c .first .ensures
-    ∙ ap₂ either (c .before .before .judge-cell .ensures) (c .before .judge-cell2 .ensures)
-    ∙ (let a = c .before .before .before .args in
-    by-either-cell (off (a .width) (a .height) (a .row) (a .col)) (off (a .width) (a .height) (a .row2) (a .col2)))
+    ∙ ap₂ either (one .judge-cell .ensures) (c .before .judge-cell2 .ensures)
+    ∙ by-either-cell
+    (off (a .width) (a .height) (a .at .row) (a .at .col)) (off (a .width) (a .height) (a .to .row) (a .to .col))
 
 pub judge-cells-spec : {M : Type 1} → statement M
 judge-cells-spec = tie.close (tie.spec judge-cell-requires judge-cell-requires-2 first-requires returns)

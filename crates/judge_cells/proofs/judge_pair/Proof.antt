@@ -58,28 +58,35 @@ distance-requires-2 c κs = search needs
 
 returns : tie.Need-returns
 returns c =
-    let a = c .before .before .before .args in
-    far-down (a .reach) (a .row) (a .col) (a .row2) (a .col2) (omega arith)
+    let s : tie.Start = search in
+    let a = s .args in
+    far-down (a .reach) (a .at .row) (a .at .col) (a .to .row) (a .to .col) (omega arith)
 
 returns-2 : tie.Need-returns-2
 returns-2 c =
-    let a = c .before .before .before .before .args in
-    far-across (a .reach) (a .row) (a .col) (a .row2) (a .col2) (omega arith) (omega arith)
+    let s : tie.Start = search in
+    let a = s .args in
+    far-across (a .reach) (a .at .row) (a .at .col) (a .to .row) (a .to .col) (omega arith) (omega arith)
 
 returns-3 : tie.Need-returns-3
 returns-3 c =
-    let a = c .before .before .before .before .before .args in
-    other-row (a .reach) (a .row) (a .col) (a .row2) (a .col2) (omega arith) (omega arith) (omega arith)
+    let s : tie.Start = search in
+    let a = s .args in
+    other-row (a .reach) (a .at .row) (a .at .col) (a .to .row) (a .to .col) (omega arith) (omega arith) (omega arith)
 
 returns-4 : tie.Need-returns-4
 returns-4 c =
-    let a = c .before .before .before .before .before .before .args in
-    other-column (a .reach) (a .row) (a .col) (a .row2) (a .col2) (omega arith) (omega arith) (omega arith)
+    let s : tie.Start = search in
+    let a = s .args in
+    other-column (a .reach) (a .at .row) (a .at .col) (a .to .row) (a .to .col)
+    (omega arith) (omega arith) (omega arith)
 
 returns-5 : tie.Need-returns-5
 returns-5 c =
-    let a = c .before .before .before .before .before .before .args in
-    itself (a .reach) (a .row) (a .col) (a .row2) (a .col2) (omega arith) (omega arith) (omega arith) (omega arith)
+    let s : tie.Start = search in
+    let a = s .args in
+    itself (a .reach) (a .at .row) (a .at .col) (a .to .row) (a .to .col)
+    (omega arith) (omega arith) (omega arith) (omega arith)
 
 pub judge-pair-spec : {M : Type 1} → statement M
 judge-pair-spec =

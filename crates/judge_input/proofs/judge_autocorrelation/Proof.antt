@@ -1,5 +1,5 @@
--- `judge_input::judge_autocorrelation` meets its contract: `judge_slices` is handed the one output length three times, which
--- tests it no differently from once.
+-- `judge_input::judge_autocorrelation` meets its contract: `judge_slices` is handed the one output length three times,
+-- which tests it no differently from once.
 use mathlib.Core.Bool.{or-self-left}
 use mathlib.Core.Path.{_∙_}
 use native.Mathlib.Omega.{arith}

@@ -1,11 +1,12 @@
--- `judge_input::judge_halftone` meets its contract: the list of refusals is in three parts, each with a judge of its own, and
--- the first number that a judge finds is the first of the whole list.
+-- `judge_input::judge_halftone` meets its contract: the list of refusals is in three parts, each with a judge of its
+-- own, and the first number that a judge finds is the first of the whole list.
 use mathlib.Core.List.{List, [], _∷_, _++_}
 use Prim.Native.Nat.{_*_}
 use borrow.Author.Needs.{needs}
 use lib.ListN.{length}
 use Rattle.model.specs.Refusal.{Refusal, badSize, badRadius, badLength, badSum, badDot, halftoneRefusal}
-use Rattle.model.proofs.Refusal.{by-first, by-either, by-second}
+use Rattle.model.proofs.Refusal.{by-first, by-second}
+use Rattle.invariants.proofs.Refusal.{by-either}
 use Rattle.judge_parts.proofs.Tests.{sized}
 use Rattle.judge_input.proofs.judge_halftone.Statement.{statement}
 use Rattle.judge_input.proofs.judge_halftone.Tie as tie
@@ -30,17 +31,19 @@ judge-measures-requires c κs = search needs
 returns : tie.Need-returns
 unfolding halftoneRefusal
 returns c =
-    let s = c .before .before .before .before .before in
+    let s : tie.Start = search in
     by-first (measures s) (slices s ++ bytes s) tt (c .before .judge-measures .ensures) (c .if1 .taken)
 
 mul-judge-slices : tie.Need-mul-judge-slices
 mul-judge-slices c =
-    let a = c .before .before .before .before .before .args in
+    let s : tie.Start = search in
+    let a = s .args in
     sized (a .width) (a .height) (a .radius) [] tt (c .before .judge-measures .ensures) (c .if1 .left) .0
 
 judge-slices-requires : tie.Need-judge-slices-requires
 judge-slices-requires c κs =
-    let a = c .before .before .before .before .before .args in
+    let s : tie.Start = search in
+    let a = s .args in
     sized (a .width) (a .height) (a .radius) [] tt (c .before .judge-measures .ensures) (c .if1 .left) .1
 
 judge-dots-requires : tie.Need-judge-dots-requires
@@ -52,10 +55,11 @@ first-requires c κs = search needs
 returns-2 : tie.Need-returns-2
 unfolding halftoneRefusal
 returns-2 c =
-    let left = c .before .before .before in
-    let s = left .before .before .before .before .before in
-    by-second (measures s) (slices s ++ bytes s) tt (left .before .judge-measures .ensures) (left .if1 .left)
-    (by-either (slices s) (bytes s) tt (c .before .before .judge-slices .ensures) (c .before .judge-dots .ensures)
+    let s : tie.Start = search in
+    let passed : tie.Else1 = search in
+    let called : tie.After-judge-slices = search in
+    by-second (measures s) (slices s ++ bytes s) tt (passed .before .judge-measures .ensures) (passed .if1 .left)
+    (by-either (slices s) (bytes s) tt (called .judge-slices .ensures) (c .before .judge-dots .ensures)
     (c .first .ensures))
 
 pub judge-halftone-spec : {M : Type 1} → statement M

@@ -1,13 +1,12 @@
--- `judge_input::judge_handed` meets its contract: the measures are judged first, and the slices only where these draw none.
+-- `judge_input::judge_handed` meets its contract: the measures are judged first, and the slices only where these draw
+-- none.
 use mathlib.Core.List.{List, [], _∷_}
-use Prim.Native.Nat.{_*_, _≤_}
+use Prim.Native.Nat.{_*_}
 use borrow.Author.Needs.{needs}
-use mir.Syntax.{w64}
-use mir.Val.{Fits}
 use Rattle.model.specs.declared.Measures.{Measures}
-use Rattle.model.specs.Refusal.{Refusal, badReach, badKind, badLength, badSum, badMeasures}
+use Rattle.model.specs.Refusal.{Refusal, badLength, badSum, badMeasures}
 use Rattle.model.proofs.Refusal.{by-first, by-second}
-use Rattle.judge_parts.proofs.Tests.{sized}
+use Rattle.judge_parts.proofs.Tests.{measured}
 use Rattle.judge_input.proofs.judge_handed.Statement.{statement}
 use Rattle.judge_input.proofs.judge_handed.Tie as tie
 
@@ -27,27 +26,26 @@ judge-all-measures-requires c κs = search needs
 
 returns : tie.Need-returns
 returns c =
-    let s = c .before .before .before in
+    let s : tie.Start = search in
     by-first (badMeasures (m s)) (slices s) tt (c .before .judge-all-measures .ensures) (c .if1 .taken)
 
--- 1 to 4 are not drawn
-fits : (c : tie.Else1) → let m = m (c .before .before .before) in Fits w64 (m .height * m .width) × (m .radius ≤ 3)
-fits c =
-    let m = m (c .before .before .before) in
-    sized (m .width) (m .height) (m .radius) (badReach (m .reach) ∷ badKind (m .start) ∷ []) tt
-    (c .before .judge-all-measures .ensures) (c .if1 .left)
-
 mul-judge-slices : tie.Need-mul-judge-slices
-mul-judge-slices c = fits (c .before) .0
+mul-judge-slices c =
+    let s : tie.Start = search in
+    let passed : tie.Else1 = search in
+    measured (m s) (passed .before .judge-all-measures .ensures) (passed .if1 .left) .0
 
 judge-slices-requires : tie.Need-judge-slices-requires
-judge-slices-requires c κs = fits (c .before) .1
+judge-slices-requires c κs =
+    let s : tie.Start = search in
+    let passed : tie.Else1 = search in
+    measured (m s) (passed .before .judge-all-measures .ensures) (passed .if1 .left) .1
 
 returns-2 : tie.Need-returns-2
 returns-2 c =
-    let left = c .before .before in
-    let s = left .before .before .before in
-    by-second (badMeasures (m s)) (slices s) tt (left .before .judge-all-measures .ensures) (left .if1 .left)
+    let s : tie.Start = search in
+    let passed : tie.Else1 = search in
+    by-second (badMeasures (m s)) (slices s) tt (passed .before .judge-all-measures .ensures) (passed .if1 .left)
     (c .judge-slices .ensures)
 
 pub judge-handed-spec : {M : Type 1} → statement M

@@ -1,17 +1,16 @@
--- `judge_input::judge_sheet` meets its contract: the measures are judged first, then 5 and 7. `judge_lengths` is handed the
--- length of the dots twice, which tests it no differently from once.
+-- `judge_input::judge_sheet` meets its contract: the measures are judged first, then 5 and 7. `judge_lengths` is handed
+-- the length of the dots twice, which tests it no differently from once.
 use mathlib.Core.Bool.{or-self-left}
 use mathlib.Core.List.{List, [], _∷_, _++_}
 use mathlib.Core.Path.{_∙_}
-use Prim.Native.Nat.{_*_, _≤_}
+use Prim.Native.Nat.{_*_}
 use borrow.Author.Needs.{needs}
 use lib.ListN.{length}
-use mir.Syntax.{w64}
-use mir.Val.{Fits}
 use Rattle.model.specs.declared.Measures.{Measures}
-use Rattle.model.specs.Refusal.{Refusal, badReach, badKind, badLength, badDot, writeRefusal, badMeasures}
-use Rattle.model.proofs.Refusal.{by-first, by-either, by-second}
-use Rattle.judge_parts.proofs.Tests.{sized}
+use Rattle.model.specs.Refusal.{Refusal, badLength, badDot, writeRefusal, badMeasures}
+use Rattle.model.proofs.Refusal.{by-first, by-second}
+use Rattle.invariants.proofs.Refusal.{by-either}
+use Rattle.judge_parts.proofs.Tests.{measured}
 use Rattle.judge_input.proofs.judge_sheet.Statement.{statement}
 use Rattle.judge_input.proofs.judge_sheet.Tie as tie
 
@@ -34,22 +33,20 @@ judge-all-measures-requires c κs = search needs
 returns : tie.Need-returns
 unfolding writeRefusal
 returns c =
-    let s = c .before .before .before .before .before in
+    let s : tie.Start = search in
     by-first (badMeasures (m s)) (exact s ++ bytes s) tt (c .before .judge-all-measures .ensures) (c .if1 .taken)
 
--- 1 to 4 are not drawn
-fits : (c : tie.Else1)
-    → let m = m (c .before .before .before .before .before) in Fits w64 (m .height * m .width) × (m .radius ≤ 3)
-fits c =
-    let m = m (c .before .before .before .before .before) in
-    sized (m .width) (m .height) (m .radius) (badReach (m .reach) ∷ badKind (m .start) ∷ []) tt
-    (c .before .judge-all-measures .ensures) (c .if1 .left)
-
 mul-cells : tie.Need-mul-cells
-mul-cells c = fits (c .before) .0
+mul-cells c =
+    let s : tie.Start = search in
+    let passed : tie.Else1 = search in
+    measured (m s) (passed .before .judge-all-measures .ensures) (passed .if1 .left) .0
 
 judge-lengths-requires : tie.Need-judge-lengths-requires
-judge-lengths-requires c κs = fits (c .before) .1
+judge-lengths-requires c κs =
+    let s : tie.Start = search in
+    let passed : tie.Else1 = search in
+    measured (m s) (passed .before .judge-all-measures .ensures) (passed .if1 .left) .1
 
 judge-dots-requires : tie.Need-judge-dots-requires
 judge-dots-requires c κs = search needs
@@ -60,11 +57,12 @@ first-requires c κs = search needs
 returns-2 : tie.Need-returns-2
 unfolding writeRefusal
 returns-2 c =
-    let lengths = c .before .before in
-    let left = lengths .before .before in
-    let s = left .before .before .before .before .before in
-    by-second (badMeasures (m s)) (exact s ++ bytes s) tt (left .before .judge-all-measures .ensures) (left .if1 .left)
-    (by-either (exact s) (bytes s) tt (lengths .judge-lengths .ensures ∙ simp or-self-left)
+    let s : tie.Start = search in
+    let passed : tie.Else1 = search in
+    let called : tie.After-judge-lengths = search in
+    by-second (badMeasures (m s)) (exact s ++ bytes s) tt
+    (passed .before .judge-all-measures .ensures) (passed .if1 .left)
+    (by-either (exact s) (bytes s) tt (called .judge-lengths .ensures ∙ simp or-self-left)
     (c .before .judge-dots .ensures) (c .first .ensures))
 
 pub judge-sheet-spec : {M : Type 1} → statement M

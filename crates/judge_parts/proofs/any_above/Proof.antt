@@ -1,4 +1,4 @@
--- `judge_input::any_above` meets its contract. The loop's invariant: the bytes from `i` on answer as all the bytes do.
+-- `judge_parts::any_above` meets its contract. The loop's invariant: the bytes from `i` on answer as all the bytes do.
 use mathlib.Core.Path.{_≡_, refl, sym, _∙_, ap}
 use Prim.Native.Nat.{_-_, _≤_}
 use native.Mathlib.Omega.{arith}
@@ -22,8 +22,8 @@ shared-slice-read-if1 c = omega arith
 
 returns : tie.Need-returns Inv-loop μ-loop
 returns c =
-    let l = c .before .before .before .loop in
-    sym (above-here _ (l .i) (omega arith) _ (c .if1 .taken)) ∙ l .inv .1
+    let l : tie.At-loop Inv-loop μ-loop = search in
+    sym (above-here _ (l .loop .i) (omega arith) _ (c .if1 .taken)) ∙ l .loop .inv .1
 
 add-i : tie.Need-add-i Inv-loop μ-loop
 add-i c = omega arith
@@ -33,8 +33,8 @@ loop-less c = omega arith
 
 loop-again : tie.Need-loop-again Inv-loop μ-loop
 loop-again c =
-    let l = c .before .before .before .loop in
-    (omega arith, sym (above-next _ (l .i) (omega arith) _ (c .if1 .left)) ∙ l .inv .1)
+    let l : tie.At-loop Inv-loop μ-loop = search in
+    (omega arith, sym (above-next _ (l .loop .i) (omega arith) _ (c .if1 .left)) ∙ l .loop .inv .1)
 
 returns-2 : tie.Need-returns-2 Inv-loop μ-loop
 unfolding above

@@ -1,6 +1,6 @@
--- `judge_input::first` meets its contract: the second number only where the first is 0.
+-- `judge_parts::first` meets its contract: the second number only where the first is 0.
 use borrow.Author.Needs.{needs}
-use Rattle.model.proofs.Refusal.{either-first}
+use Rattle.invariants.proofs.Refusal.{either-first}
 use Rattle.judge_parts.proofs.first.Statement.{statement}
 use Rattle.judge_parts.proofs.first.Tie as tie
 

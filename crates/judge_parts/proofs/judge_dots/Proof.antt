@@ -1,4 +1,4 @@
--- `judge_input::judge_dots` meets its contract: each return is read off its test.
+-- `judge_parts::judge_dots` meets its contract: each return is read off its test.
 use mathlib.Core.Path.{sym}
 use borrow.Author.Needs.{needs}
 use Rattle.judge_parts.proofs.judge_dots.Statement.{statement}

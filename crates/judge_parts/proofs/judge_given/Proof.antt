@@ -1,4 +1,4 @@
--- `judge_input::judge_given` meets its contract: the bytes are tested exactly where the kind is 2.
+-- `judge_parts::judge_given` meets its contract: the bytes are tested exactly where the kind is 2.
 use mathlib.Core.Path.{refl}
 use borrow.Author.Needs.{needs}
 use borrow.Author.Tests.{eq-eqb, ne-eqb}

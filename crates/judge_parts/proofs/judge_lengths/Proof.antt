@@ -1,4 +1,4 @@
--- `judge_input::judge_lengths` meets its contract: each return is read off its tests.
+-- `judge_parts::judge_lengths` meets its contract: each return is read off its tests.
 use native.Mathlib.Omega.{arith}
 use borrow.Author.Needs.{needs}
 use Rattle.algebra.proofs.Machine.{factors-fit}

@@ -1,4 +1,4 @@
--- `judge_input::judge_measures` meets its contract: each return is read off its tests.
+-- `judge_parts::judge_measures` meets its contract: each return is read off its tests.
 use Rattle.judge_parts.proofs.Tests.{tests}
 use Rattle.judge_parts.proofs.judge_measures.Statement.{statement}
 use Rattle.judge_parts.proofs.judge_measures.Tie as tie

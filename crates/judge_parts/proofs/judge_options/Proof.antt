@@ -1,4 +1,4 @@
--- `judge_input::judge_options` meets its contract: each return is read off its tests.
+-- `judge_parts::judge_options` meets its contract: each return is read off its tests.
 use Rattle.judge_parts.proofs.Tests.{tests}
 use Rattle.judge_parts.proofs.judge_options.Statement.{statement}
 use Rattle.judge_parts.proofs.judge_options.Tie as tie

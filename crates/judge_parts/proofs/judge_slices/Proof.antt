@@ -1,11 +1,10 @@
--- `judge_input::judge_slices` meets its contract: 5 is judged first, and 6 is read off its tests.
-use mathlib.Core.List.{List, [], _∷_, _++_}
-use mathlib.Core.Path.{_≡_, sym}
-use Prim.Native.Nat.{ℕ}
+-- `judge_parts::judge_slices` meets its contract: 5 is judged first, and 6 is read off its tests.
+use mathlib.Core.List.{List, [], _∷_}
+use mathlib.Core.Path.{sym}
 use native.Mathlib.Omega.{arith}
 use borrow.Author.Needs.{needs}
 use borrow.Author.Tests.{lt-ltb, le-ltb}
-use Rattle.model.specs.Refusal.{Refusal, firstOf, badLength, badSum}
+use Rattle.model.specs.Refusal.{Refusal, badLength, badSum}
 use Rattle.model.proofs.Refusal.{by-first, by-second}
 use Rattle.judge_parts.proofs.Tests.{tests, psf-most}
 use Rattle.judge_parts.proofs.judge_slices.Statement.{statement}
@@ -26,36 +25,39 @@ judge-lengths-requires c κs = search needs
 
 returns : tie.Need-returns
 returns c =
-    let s = c .before .before .before in
+    let s : tie.Start = search in
     by-first (exact s) (sum s) tt (c .before .judge-lengths .ensures) (c .if1 .taken)
 
 sum-requires : tie.Need-sum-requires
 sum-requires c κs =
-    let s = c .before .before .before in
+    let s : tie.Start = search in
     let a = s .args in
     psf-most (a .radius) (a .psf .now) (a .cells) (a .gray ∷ a .dots ∷ a .table ∷ []) (s .pre)
     (c .before .judge-lengths .ensures) (c .if1 .left)
 
 -- 5 is not drawn, so 6 decides
-module _ (c : tie.After-sum) where
-  abbrev s : tie.Start
-  s = c .before .before .before .before
-
-  by-sum : {x : ℕ} → x ≡ firstOf (sum s) → x ≡ firstOf (exact s ++ sum s)
-  by-sum e = by-second (exact s) (sum s) tt (c .before .before .judge-lengths .ensures) (c .before .if1 .left) e
-
 returns-2 : tie.Need-returns-2
-returns-2 c = by-sum (c .before) (search (tests, sym (c .before .sum .ensures)))
+returns-2 c =
+    let s : tie.Start = search in
+    let e : tie.Else1 = search in
+    by-second (exact s) (sum s) tt (e .before .judge-lengths .ensures) (e .if1 .left)
+    (search (tests, sym (c .before .sum .ensures)))
 
 returns-3 : tie.Need-returns-3
 returns-3 c =
-    let s = c .before .before .sum in
-    by-sum (c .before .before) (search (tests, sym (s .ensures), lt-ltb 1024 (s .result) (omega arith)))
+    let s : tie.Start = search in
+    let e : tie.Else1 = search in
+    let n : tie.After-sum = search in
+    by-second (exact s) (sum s) tt (e .before .judge-lengths .ensures) (e .if1 .left)
+    (search (tests, sym (n .sum .ensures), lt-ltb 1024 (n .sum .result) (omega arith)))
 
 returns-4 : tie.Need-returns-4
 returns-4 c =
-    let s = c .before .before .sum in
-    by-sum (c .before .before) (search (tests, sym (s .ensures), le-ltb 1024 (s .result) (omega arith)))
+    let s : tie.Start = search in
+    let e : tie.Else1 = search in
+    let n : tie.After-sum = search in
+    by-second (exact s) (sum s) tt (e .before .judge-lengths .ensures) (e .if1 .left)
+    (search (tests, sym (n .sum .ensures), le-ltb 1024 (n .sum .result) (omega arith)))
 
 pub judge-slices-spec : {M : Type 1} → statement M
 judge-slices-spec =

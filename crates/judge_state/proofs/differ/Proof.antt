@@ -38,11 +38,17 @@ module _ (l : tie.At-loop Inv-loop μ-loop) where
   fresh = getD (l .before .args .fresh .now) (l .loop .m) (pos 0)
 
 -- the entries of a turn that goes on are alike: their bits are
-alike : (c : tie.Else1 Inv-loop μ-loop) → (let l = c .before .before .before .before in given l ≡ fresh l)
-alike c =
-    sym (read-back w32 _ (c .before .before .if12 .given))
-    ∙ ap (toZ w32) (c .if1 .left)
-    ∙ read-back w32 _ (c .before .if13 .given)
+module _ (c : tie.Else1 Inv-loop μ-loop) where
+  l : tie.At-loop Inv-loop μ-loop
+  l = search
+
+  one : tie.After-if12 Inv-loop μ-loop
+  one = search
+
+  alike : given l ≡ fresh l
+  unfolding l one
+  alike =
+      sym (read-back w32 _ (one .if12 .given)) ∙ ap (toZ w32) (c .if1 .left) ∙ read-back w32 _ (c .before .if13 .given)
 
 loop-holds : tie.Need-loop-holds Inv-loop μ-loop
 unfolding someBelow
@@ -62,8 +68,9 @@ shared-slice-copy-out-if1-2 c = omega arith
 
 returns : tie.Need-returns Inv-loop μ-loop
 returns c =
-    let l = c .before .before .before .before in
-    sym (below-here _ (tests l) (l .loop .m) (c .before .before .before .loop-test .taken)
+    let turn : tie.In-loop Inv-loop μ-loop = search in
+    let l = turn .before in
+    sym (below-here _ (tests l) (l .loop .m) (turn .loop-test .taken)
     (apart (given l) (fresh l) (λ e. c .if1 .taken (ap (ofZ w32) e))))
 
 add-m : tie.Need-add-m Inv-loop μ-loop
@@ -73,9 +80,8 @@ loop-less : tie.Need-loop-less Inv-loop μ-loop
 loop-less c = omega arith
 
 loop-again : tie.Need-loop-again Inv-loop μ-loop
-loop-again c =
-    let l = c .before .before .before .before in
-    (omega arith, below-next (l .loop .m) (tests l) (l .loop .inv .1) (same (alike c)))
+unfolding l
+loop-again c = (omega arith, below-next (l c .loop .m) (tests (l c)) (l c .loop .inv .1) (same (alike c)))
 
 returns-2 : tie.Need-returns-2 Inv-loop μ-loop
 returns-2 c =

@@ -1,10 +1,9 @@
 -- `picture::count_rows` meets its contract: each return is one outcome of `countRowsCall`.
 use borrow.Author.Needs.{needs}
 use lib.ListN.{length}
-use mathlib.Core.Path.{sym, _∙_}
-use Rattle.model.specs.Calls.{result}
+use mathlib.Core.Path.{refl, sym, _∙_}
 use Rattle.model.specs.PictureCalls.{countRowsCall}
-use Rattle.model.proofs.Calls.{is-refused, is-done}
+use Rattle.model.proofs.Calls.{ends-refused, ends-done}
 use Rattle.model.proofs.Pictures.{rows-fit}
 use Rattle.picture.proofs.count_rows.Statement.{statement}
 use Rattle.picture.proofs.count_rows.Tie as tie
@@ -16,7 +15,7 @@ returns : tie.Need-returns
 unfolding countRowsCall
 returns c =
     let judged : tie.After-judge-rows = search in
-    is-refused _ _ _ (judged .judge-rows .ensures) (c .if1 .taken)
+    ends-refused _ _ _ (judged .judge-rows .ensures) (c .if1 .taken)
 
 count-packed-requires : tie.Need-count-packed-requires
 count-packed-requires c κs =
@@ -36,9 +35,8 @@ returns-2 c =
     let judged : tie.After-judge-rows = search in
     let left : tie.Else1 = search in
     let counted : tie.After-count-packed = search in
-    let (reply, put) = is-done _ (record { reply = result tt; left = _ }) _
-    (sym (judged .judge-rows .ensures) ∙ left .if1 .left) (counted .count-packed .ensures) in
-    (reply, put)
+    ends-done _ _ _ (sym (judged .judge-rows .ensures) ∙ left .if1 .left)
+    (record { reply-is = refl; left-is = counted .count-packed .ensures })
 
 pub count-rows-spec : {M : Type 1} → statement M
 count-rows-spec =

@@ -5,10 +5,10 @@ use native.Mathlib.Omega.{arith}
 use borrow.Author.Needs.{needs}
 use lib.ListN.{length}
 use Rattle.model.specs.Refusal.{badDot}
-use Rattle.model.specs.Netpbm.{pbmHead, packed, pbmFile}
+use Rattle.model.specs.Netpbm.{packed, pbmFile}
 use Rattle.model.specs.PictureCalls.{pictureRefusals, writePbmCall}
+use Rattle.model.proofs.Puts.{puts-rest}
 use Rattle.model.proofs.Pictures.{bits-fit, pbm-length}
-use Rattle.sheet_write.proofs.Puts.{part-next}
 use Rattle.picture.proofs.Outcomes.{write-refused, write-short, write-done}
 use Rattle.picture.proofs.write_pbm.Statement.{statement}
 use Rattle.picture.proofs.write_pbm.Tie as tie
@@ -58,7 +58,7 @@ pack-rows-requires c κs =
     let put : tie.After-put-pbm-head = search in
     let (size, exact, bits) = bits-fit (s .args .size) (s .args .dots .now) (judged .judge-bits .ensures)
     (left .if1 .left) in
-    (size, ((exact, bits), omega (arith, put .put-pbm-head .ensures .0, long .pbm-length .ensures, room .if2 .left)))
+    (size, ((exact, bits), omega (arith, put .put-pbm-head .ensures .end-is, long .pbm-length .ensures, room .if2 .left)))
 
 same-length : tie.Need-same-length
 same-length c = search needs
@@ -75,14 +75,12 @@ returns-3 c =
     let long : tie.After-pbm-length = search in
     let z = s .args .size in
     let dots = s .args .dots .now in
-    let put = head .put-pbm-head in
+    let put = head .put-pbm-head .ensures in
     let size = pbm-length z dots in
     write-done (pictureRefusals z (length dots) ++ (badDot dots ∷ [])) tt (pbmFile z dots)
     (s .args .out .now) (judged .judge-bits .ensures) (left .if1 .left)
     (omega (arith, long .pbm-length .ensures, size, room .if2 .left)) (long .pbm-length .ensures ∙ sym size)
-    (done .pack-rows .ensures
-    ∙ sym (part-next (pbmHead z) (packed z dots) (s .args .out .now) (put .last .0) 0 (put .result) (put .ensures .1)
-    (omega (arith, put .ensures .0))))
+    (puts-rest (packed z dots) put (done .pack-rows .ensures))
 
 pub write-pbm-spec : {M : Type 1} → statement M
 write-pbm-spec =

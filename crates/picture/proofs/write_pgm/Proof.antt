@@ -3,10 +3,10 @@ use mathlib.Core.Path.{sym, _∙_}
 use native.Mathlib.Omega.{arith}
 use borrow.Author.Needs.{needs}
 use lib.ListN.{length}
-use Rattle.model.specs.Netpbm.{pgmHead, negated, pgmFile}
+use Rattle.model.specs.Netpbm.{negated, pgmFile}
 use Rattle.model.specs.PictureCalls.{pictureRefusals, writePgmCall}
+use Rattle.model.proofs.Puts.{puts-rest}
 use Rattle.model.proofs.Pictures.{picture-fits, pgm-length}
-use Rattle.sheet_write.proofs.Puts.{part-next}
 use Rattle.picture.proofs.Outcomes.{write-refused, write-short, write-done}
 use Rattle.picture.proofs.write_pgm.Statement.{statement}
 use Rattle.picture.proofs.write_pgm.Tie as tie
@@ -57,7 +57,7 @@ negate-requires c κs =
     let put : tie.After-put-pgm-head = search in
     let (_, exact) = picture-fits (s .args .size) (length (s .args .gray .now)) (judged .judge-picture .ensures)
     (left .if1 .left) in
-    (omega arith, omega (arith, put .put-pgm-head .ensures .0, long .pgm-length .ensures, exact, room .if2 .left))
+    (omega arith, omega (arith, put .put-pgm-head .ensures .end-is, long .pgm-length .ensures, exact, room .if2 .left))
 
 same-length : tie.Need-same-length
 same-length c = search needs
@@ -74,15 +74,13 @@ returns-3 c =
     let long : tie.After-pgm-length = search in
     let z = s .args .size in
     let gray = s .args .gray .now in
-    let put = head .put-pgm-head in
+    let put = head .put-pgm-head .ensures in
     let (_, exact) = picture-fits z (length gray) (judged .judge-picture .ensures) (left .if1 .left) in
     let size = pgm-length z gray exact in
     write-done (pictureRefusals z (length gray)) tt (pgmFile z gray)
     (s .args .out .now) (judged .judge-picture .ensures) (left .if1 .left)
     (omega (arith, long .pgm-length .ensures, size, room .if2 .left)) (long .pgm-length .ensures ∙ sym size)
-    (done .negate .ensures
-    ∙ sym (part-next (pgmHead z) (negated gray) (s .args .out .now) (put .last .0) 0 (put .result) (put .ensures .1)
-    (omega (arith, put .ensures .0))))
+    (puts-rest (negated gray) put (done .negate .ensures))
 
 pub write-pgm-spec : {M : Type 1} → statement M
 write-pgm-spec =

@@ -4,7 +4,7 @@ use native.Mathlib.Omega.{arith}
 use borrow.Author.Needs.{needs}
 use Rattle.algebra.proofs.Machine.{factors-fit}
 use Rattle.model.specs.Netpbm.{packedSize, cellsIn}
-use Rattle.model.specs.PictureHeader.{sizeOf}
+use Rattle.model.specs.PictureHeader.{mostValue, sizeOf}
 use Rattle.model.specs.PictureCalls.{badLayout, badRoom}
 use Rattle.model.proofs.Refusal.{by-first, by-second}
 use Rattle.picture_judge.proofs.judge_pbm.Statement.{statement}
@@ -16,7 +16,7 @@ add-row-bytes c = search needs
 mul-judge-layout : tie.Need-mul-judge-layout
 mul-judge-layout c =
     let s : tie.Start = search in
-    factors-fit 65536 8192 (s .pre .1) (omega (arith, s .pre .0)) tt
+    factors-fit mostValue 8192 (s .pre .1) (omega (arith, s .pre .0)) tt
 
 judge-layout-requires : tie.Need-judge-layout-requires
 judge-layout-requires c κs = search needs
@@ -32,7 +32,7 @@ returns c =
 mul-judge-room : tie.Need-mul-judge-room
 mul-judge-room c =
     let s : tie.Start = search in
-    factors-fit 65536 65536 (s .pre .1) (s .pre .0) tt
+    factors-fit mostValue mostValue (s .pre .1) (s .pre .0) tt
 
 judge-room-requires : tie.Need-judge-room-requires
 judge-room-requires c κs = search needs

@@ -7,7 +7,7 @@ use borrow.Author.Tests.{eq-eqb, ne-eqb}
 use Rattle.algebra.proofs.Machine.{factors-fit}
 use Rattle.model.specs.Refusal.{Refusal, firstOf}
 use Rattle.model.specs.Netpbm.{cellsIn}
-use Rattle.model.specs.PictureHeader.{sizeOf}
+use Rattle.model.specs.PictureHeader.{mostValue, sizeOf}
 use Rattle.model.specs.PictureCalls.{badLayout, badMaximum, badRoom}
 use Rattle.model.proofs.Refusal.{by-first, by-second}
 use Rattle.picture_judge.proofs.judge_pgm.Statement.{statement}
@@ -24,7 +24,7 @@ module _ (s : tie.Start) where
 mul-cells : tie.Need-mul-cells
 mul-cells c =
     let s : tie.Start = search in
-    factors-fit 65536 65536 (s .pre .1) (s .pre .0) tt
+    factors-fit mostValue mostValue (s .pre .1) (s .pre .0) tt
 
 judge-layout-requires : tie.Need-judge-layout-requires
 judge-layout-requires c κs = search needs

@@ -1,10 +1,6 @@
 -- `picture_lines::put_pbm_head` meets its contract: the magic number is put, then the size.
-use mathlib.Core.Path.{sym, _∙_}
-use native.Mathlib.Omega.{arith}
 use borrow.Author.Needs.{needs}
-use Rattle.model.specs.Text.{bytes}
-use Rattle.model.specs.Netpbm.{sizeLine}
-use Rattle.sheet_write.proofs.Puts.{part-next}
+use Rattle.model.proofs.Puts.{puts-then}
 use Rattle.picture_lines.proofs.put_pbm_head.Statement.{statement}
 use Rattle.picture_lines.proofs.put_pbm_head.Tie as tie
 
@@ -22,17 +18,9 @@ same-length c = search needs
 
 returns : tie.Need-returns
 returns c =
-    let s : tie.Start = search in
     let first : tie.After-put-bytes = search in
     let second : tie.After-put-size = search in
-    let line = first .put-bytes in
-    let z = s .args .size in (
-      omega (arith, line .ensures .0, second .put-size .ensures .0),
-      second .put-size .ensures .1
-          ∙ sym
-          (part-next (bytes "P4\n") (sizeLine z) (s .args .out .now) (line .last .0) 0 (line .result)
-          (line .ensures .1) (line .ensures .0)),
-    )
+    puts-then (first .put-bytes .ensures) (second .put-size .ensures)
 
 pub put-pbm-head-spec : {M : Type 1} → statement M
 put-pbm-head-spec =

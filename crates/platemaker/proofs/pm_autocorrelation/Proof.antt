@@ -1,7 +1,6 @@
 -- `platemaker::pm_autocorrelation` meets its contract: the status of the answer, and the slice as it is left.
-use mathlib.Core.Path.{_∙_, ap}
 use borrow.Author.Needs.{needs}
-use Rattle.model.specs.Interface.{status}
+use Rattle.platemaker.proofs.Laid.{fills}
 use Rattle.platemaker.proofs.pm_autocorrelation.Statement.{statement}
 use Rattle.platemaker.proofs.pm_autocorrelation.Tie as tie
 
@@ -18,7 +17,7 @@ returns : tie.Need-returns
 returns c =
     let called : tie.After-autocorrelation = search in
     let laid : tie.After-lay-filled = search in
-    (laid .lay-filled .ensures ∙ ap status (called .autocorrelation .ensures .0), called .autocorrelation .ensures .1)
+    fills (called .autocorrelation .ensures) (laid .lay-filled .ensures)
 
 pub pm-autocorrelation-spec : {M : Type 1} → statement M
 pm-autocorrelation-spec = tie.close (tie.spec autocorrelation-requires lay-filled-requires same-length returns)

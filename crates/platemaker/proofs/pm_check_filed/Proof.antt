@@ -1,12 +1,13 @@
 -- `platemaker::pm_check_filed` meets its contract: the slice of the verdict is refused, or the filed sheet is checked
 -- and the answer laid out.
 use borrow.Author.Needs.{needs}
-use Rattle.platemaker.proofs.Laid.{check-uncounted, check-counted, check-in-range}
+use Rattle.platemaker.proofs.Laid.{count-refused, count-taken, check-in-range}
 use Rattle.platemaker.proofs.pm_check_filed.Statement.{statement}
 use Rattle.platemaker.proofs.pm_check_filed.Tie as tie
 
 returns : tie.Need-returns
-returns c = check-uncounted _ _ _ _ _ _ _ (c .if1 .taken)
+returns c =
+    count-refused _ _ _ _ _ _ (c .if1 .taken)
 
 check-filed-requires : tie.Need-check-filed-requires
 check-filed-requires c κs = search needs
@@ -15,7 +16,7 @@ lay-checked-requires : tie.Need-lay-checked-requires
 lay-checked-requires c κs =
     let taken : tie.Else1 = search in
     let called : tie.After-check-filed = search in
-    (taken .if1 .left, check-in-range _ _ _ _ _ _ (called .check-filed .ensures .0))
+    (taken .if1 .left, check-in-range _ _ _ _ _ _ (called .check-filed .ensures .reply-is))
 
 same-length : tie.Need-same-length
 same-length c = search needs
@@ -37,7 +38,7 @@ returns-2 c =
     let taken : tie.Else1 = search in
     let called : tie.After-check-filed = search in
     let laid : tie.After-lay-checked = search in
-    check-counted _ _ _ _ _ _ _ (taken .if1 .left) (called .check-filed .ensures) (laid .lay-checked .ensures)
+    count-taken _ _ _ _ _ _ (taken .if1 .left) (called .check-filed .ensures) (laid .lay-checked .ensures)
 
 pub pm-check-filed-spec : {M : Type 1} → statement M
 pm-check-filed-spec =

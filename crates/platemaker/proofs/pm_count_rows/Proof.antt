@@ -1,7 +1,6 @@
 -- `platemaker::pm_count_rows` meets its contract: the status of the answer, and the slice as it is left.
-use mathlib.Core.Path.{_∙_, ap}
 use borrow.Author.Needs.{needs}
-use Rattle.model.specs.Interface.{status}
+use Rattle.platemaker.proofs.Laid.{fills}
 use Rattle.platemaker.proofs.pm_count_rows.Statement.{statement}
 use Rattle.platemaker.proofs.pm_count_rows.Tie as tie
 
@@ -18,7 +17,7 @@ returns : tie.Need-returns
 returns c =
     let called : tie.After-count-rows = search in
     let laid : tie.After-lay-filled = search in
-    (laid .lay-filled .ensures ∙ ap status (called .count-rows .ensures .0), called .count-rows .ensures .1)
+    fills (called .count-rows .ensures) (laid .lay-filled .ensures)
 
 pub pm-count-rows-spec : {M : Type 1} → statement M
 pm-count-rows-spec = tie.close (tie.spec count-rows-requires lay-filled-requires same-length returns)

@@ -1,7 +1,6 @@
 -- `platemaker::pm_filtered_error` meets its contract: the status of the answer, and the slice as it is left.
-use mathlib.Core.Path.{_∙_, ap}
 use borrow.Author.Needs.{needs}
-use Rattle.model.specs.Interface.{status}
+use Rattle.platemaker.proofs.Laid.{fills}
 use Rattle.platemaker.proofs.pm_filtered_error.Statement.{statement}
 use Rattle.platemaker.proofs.pm_filtered_error.Tie as tie
 
@@ -18,7 +17,7 @@ returns : tie.Need-returns
 returns c =
     let called : tie.After-filtered-error = search in
     let laid : tie.After-lay-filled = search in
-    (laid .lay-filled .ensures ∙ ap status (called .filtered-error .ensures .0), called .filtered-error .ensures .1)
+    fills (called .filtered-error .ensures) (laid .lay-filled .ensures)
 
 pub pm-filtered-error-spec : {M : Type 1} → statement M
 pm-filtered-error-spec = tie.close (tie.spec filtered-error-requires lay-filled-requires same-length returns)

@@ -1,7 +1,6 @@
 -- `platemaker::pm_read_pbm` meets its contract: the answer is laid out, and the slice is as it is left.
-use mathlib.Core.Path.{_∙_, ap}
 use borrow.Author.Needs.{needs}
-use Rattle.model.specs.Interface.{status, after}
+use Rattle.platemaker.proofs.Laid.{makes}
 use Rattle.platemaker.proofs.pm_read_pbm.Statement.{statement}
 use Rattle.platemaker.proofs.pm_read_pbm.Tie as tie
 
@@ -18,9 +17,7 @@ returns : tie.Need-returns
 returns c =
     let called : tie.After-read-pbm = search in
     let laid : tie.After-lay-picture = search in
-    let (e, left) = called .read-pbm .ensures in
-    let (number, wide, high) = laid .lay-picture .ensures in
-    (number ∙ ap status e, left, wide ∙ ap (after (λ z. z .width) _) e, high ∙ ap (after (λ z. z .height) _) e)
+    makes (called .read-pbm .ensures) (laid .lay-picture .ensures)
 
 pub pm-read-pbm-spec : {M : Type 1} → statement M
 pm-read-pbm-spec = tie.close (tie.spec read-pbm-requires lay-picture-requires same-length returns)

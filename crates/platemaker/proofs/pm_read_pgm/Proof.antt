@@ -1,7 +1,6 @@
 -- `platemaker::pm_read_pgm` meets its contract: the answer is laid out, and the slice is as it is left.
-use mathlib.Core.Path.{_∙_, ap}
 use borrow.Author.Needs.{needs}
-use Rattle.model.specs.Interface.{status, after}
+use Rattle.platemaker.proofs.Laid.{makes}
 use Rattle.platemaker.proofs.pm_read_pgm.Statement.{statement}
 use Rattle.platemaker.proofs.pm_read_pgm.Tie as tie
 
@@ -18,9 +17,7 @@ returns : tie.Need-returns
 returns c =
     let called : tie.After-read-pgm = search in
     let laid : tie.After-lay-picture = search in
-    let (e, left) = called .read-pgm .ensures in
-    let (number, wide, high) = laid .lay-picture .ensures in
-    (number ∙ ap status e, left, wide ∙ ap (after (λ z. z .width) _) e, high ∙ ap (after (λ z. z .height) _) e)
+    makes (called .read-pgm .ensures) (laid .lay-picture .ensures)
 
 pub pm-read-pgm-spec : {M : Type 1} → statement M
 pm-read-pgm-spec = tie.close (tie.spec read-pgm-requires lay-picture-requires same-length returns)

@@ -1,11 +1,12 @@
 -- `platemaker::pm_read_sheet` meets its contract: the slice of measures is refused, or the sheet is read and laid out.
 use borrow.Author.Needs.{needs}
-use Rattle.platemaker.proofs.Laid.{read-uncounted, read-counted}
+use Rattle.platemaker.proofs.Laid.{count-refused, count-taken}
 use Rattle.platemaker.proofs.pm_read_sheet.Statement.{statement}
 use Rattle.platemaker.proofs.pm_read_sheet.Tie as tie
 
 returns : tie.Need-returns
-returns c = read-uncounted _ _ _ _ _ _ (c .if1 .taken)
+returns c =
+    count-refused _ _ _ _ _ _ (c .if1 .taken)
 
 read-sheet-requires : tie.Need-read-sheet-requires
 read-sheet-requires c κs = search needs
@@ -30,8 +31,7 @@ returns-2 c =
     let taken : tie.Else1 = search in
     let called : tie.After-read-sheet = search in
     let laid : tie.After-lay-reading = search in
-    let (e, (psf, (gray, dots))) = called .read-sheet .ensures in
-    read-counted _ _ _ _ _ _ (taken .if1 .left) (e, (psf, (gray, dots))) (laid .lay-reading .ensures)
+    count-taken _ _ _ _ _ _ (taken .if1 .left) (called .read-sheet .ensures) (laid .lay-reading .ensures)
 
 pub pm-read-sheet-spec : {M : Type 1} → statement M
 pm-read-sheet-spec = tie.close (tie.spec returns read-sheet-requires lay-reading-requires same-length same-length-2 same-length-3 same-length-4 returns-2)

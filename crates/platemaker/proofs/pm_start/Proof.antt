@@ -10,7 +10,7 @@ use Rattle.platemaker.proofs.pm_start.Statement.{statement}
 use Rattle.platemaker.proofs.pm_start.Tie as tie
 
 -- gray is made of bytes
-bytes : (k : tie.After-shared-slice-known3) → AtMost 255 (k .before .before .before .args .gray .now)
+bytes : (k : tie.After-shared-slice-known3) → let s : tie.Start = search in AtMost 255 (s .args .gray .now)
 bytes k = record { each = λ i. omega (arith, k .shared-slice-known3 .given i) }
 
 judge-numbers-requires : tie.Need-judge-numbers-requires
@@ -23,9 +23,7 @@ returns : tie.Need-returns
 returns c =
     let judged : tie.After-judge-numbers = search in
     let known : tie.After-shared-slice-known3 = search in
-    let (r, d, t, s, _)
-    = slices-refused _ _ _ _ _ _ _ _ (λ _. tt {0}) (tt {0}) (judged .judge-numbers .ensures) (c .if1 .taken) in
-    ((r, d, t, s), bytes known)
+    (slices-refused _ _ _ _ _ _ _ _ _ (judged .judge-numbers .ensures) (c .if1 .taken), bytes known)
 
 measures-of-requires : tie.Need-measures-of-requires
 measures-of-requires c κs =
@@ -41,8 +39,8 @@ lay-start-requires c κs =
     let judged : tie.After-judge-numbers = search in
     let good : tie.Else1 = search in
     let called : tie.After-start = search in
-    to-lay _ _ _ (judged .judge-numbers .ensures) (good .if1 .left) (called .start .ensures .0)
-    (start-storable _ _ _ _ _ (called .start .ensures .1 .1 .1))
+    to-lay _ _ _ (judged .judge-numbers .ensures) (good .if1 .left) (called .start .ensures .0 .reply-is)
+    (start-storable _ _ _ _ _ (called .start .ensures .1))
 
 same-length-2 : tie.Need-same-length-2
 same-length-2 c = search needs
@@ -60,12 +58,11 @@ returns-2 c =
     let measured : tie.After-measures-of = search in
     let called : tie.After-start = search in
     let laid : tie.After-lay-start = search in
-    let (reply, (dots, (table, gray))) = called .start .ensures in
-    let (a, b) = laid .lay-start .ensures in
-    let (r, d, t, s, _)
-    = slices-taken (λ m p g d t s. startCall m p g d t) _ _ _ _ _ _ _ (λ _. tt {0}) (tt {0}) (judged .judge-numbers .ensures)
-    (good .if1 .left) (measured .measures-of .ensures) refl (reply, (dots, table)) (a, b, refl) in
-    ((r, d, t, s), gray)
+    let (ends, gray) = called .start .ensures in (
+      slices-taken (λ m p g d t s. startCall m p g d t) _ _ _ _ _ _ (judged .judge-numbers .ensures) (good .if1 .left)
+          (measured .measures-of .ensures) refl ends (laid .lay-start .ensures),
+      gray,
+    )
 
 pub pm-start-spec : {M : Type 1} → statement M
 pm-start-spec =

@@ -29,7 +29,7 @@ same-length c = search needs
 returns : tie.Need-returns
 returns c =
     let judged : tie.After-judge-numbers = search in
-    slices-refused _ _ _ _ _ _ _ _ _ _ (judged .judge-numbers .ensures) (c .if1 .taken)
+    slices-refused _ _ _ _ _ _ _ _ _ (judged .judge-numbers .ensures) (c .if1 .taken)
 
 measures-of-requires : tie.Need-measures-of-requires
 measures-of-requires c κs =
@@ -50,7 +50,7 @@ lay-scan-requires : tie.Need-lay-scan-requires
 unfolding judged good
 lay-scan-requires c κs =
     let k : tie.After-swap-scan = search in
-    to-lay _ _ _ (judged k .judge-numbers .ensures) (good k .if1 .left) (k .swap-scan .ensures .0)
+    to-lay _ _ _ (judged k .judge-numbers .ensures) (good k .if1 .left) (k .swap-scan .ensures .reply-is)
     (swap-scan-storable _ _ _ _ _ _)
 
 same-length-2 : tie.Need-same-length-2
@@ -67,9 +67,8 @@ unfolding judged good measured read
 returns-2 c =
     let k : tie.After-swap-scan = search in
     let laid : tie.After-lay-scan = search in
-    slices-taken swapScanCall _ _ _ _ _ _ _ _ _ (judged k .judge-numbers .ensures)
-    (good k .if1 .left) (measured k .measures-of .ensures) (read k .stats-of .ensures) (k .swap-scan .ensures)
-    (laid .lay-scan .ensures)
+    slices-taken swapScanCall _ _ _ _ _ _ (judged k .judge-numbers .ensures) (good k .if1 .left)
+    (measured k .measures-of .ensures) (read k .stats-of .ensures) (k .swap-scan .ensures) (laid .lay-scan .ensures)
 
 pub pm-swap-scan-spec : {M : Type 1} → statement M
 pm-swap-scan-spec =

@@ -32,7 +32,7 @@ same-length c = search needs
 returns : tie.Need-returns
 returns c =
     let judged : tie.After-judge-numbers = search in
-    slices-refused _ _ _ _ _ _ _ _ _ _ (judged .judge-numbers .ensures) (c .if1 .taken)
+    slices-refused _ _ _ _ _ _ _ _ _ (judged .judge-numbers .ensures) (c .if1 .taken)
 
 measures-of-requires : tie.Need-measures-of-requires
 measures-of-requires c κs =
@@ -53,7 +53,7 @@ lay-attempt-requires : tie.Need-lay-attempt-requires
 unfolding judged good
 lay-attempt-requires c κs =
     let k : tie.After-try-swap = search in
-    to-lay _ _ _ (judged k .judge-numbers .ensures) (good k .if1 .left) (k .try-swap .ensures .0)
+    to-lay _ _ _ (judged k .judge-numbers .ensures) (good k .if1 .left) (k .try-swap .ensures .reply-is)
     (swap-storable _ _ _ _ _ _ _ _ _ _)
 
 same-length-2 : tie.Need-same-length-2
@@ -70,9 +70,8 @@ unfolding begun judged good measured read
 returns-2 c =
     let k : tie.After-try-swap = search in
     let laid : tie.After-lay-attempt = search in
-    slices-taken (λ m p g d t s. swapCall m p g d t s (begun k .args .row) (begun k .args .col) (begun k .args .row2) (begun k .args .col2)) _ _ _ _ _ _ _ _ _ (judged k .judge-numbers .ensures)
-    (good k .if1 .left) (measured k .measures-of .ensures) (read k .stats-of .ensures) (k .try-swap .ensures)
-    (laid .lay-attempt .ensures)
+    slices-taken (λ m p g d t s. swapCall m p g d t s (begun k .args .row) (begun k .args .col) (begun k .args .row2) (begun k .args .col2)) _ _ _ _ _ _ (judged k .judge-numbers .ensures) (good k .if1 .left)
+    (measured k .measures-of .ensures) (read k .stats-of .ensures) (k .try-swap .ensures) (laid .lay-attempt .ensures)
 
 pub pm-try-swap-spec : {M : Type 1} → statement M
 pm-try-swap-spec =

@@ -1,7 +1,6 @@
 -- `platemaker::pm_write_pgm` meets its contract: the answer is laid out, and the output is as it is left.
-use mathlib.Core.Path.{_∙_, ap}
 use borrow.Author.Needs.{needs}
-use Rattle.model.specs.Interface.{status, after}
+use Rattle.platemaker.proofs.Laid.{makes}
 use Rattle.platemaker.proofs.pm_write_pgm.Statement.{statement}
 use Rattle.platemaker.proofs.pm_write_pgm.Tie as tie
 
@@ -18,9 +17,7 @@ returns : tie.Need-returns
 returns c =
     let called : tie.After-write-pgm = search in
     let laid : tie.After-lay-written = search in
-    let (e, left) = called .write-pgm .ensures in
-    let (number, long) = laid .lay-written .ensures in
-    (number ∙ ap status e, left, long ∙ ap (after (λ n. n) _) e)
+    makes (called .write-pgm .ensures) (laid .lay-written .ensures)
 
 pub pm-write-pgm-spec : {M : Type 1} → statement M
 pm-write-pgm-spec = tie.close (tie.spec write-pgm-requires lay-written-requires same-length returns)

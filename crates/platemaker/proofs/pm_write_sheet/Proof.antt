@@ -1,12 +1,13 @@
 -- `platemaker::pm_write_sheet` meets its contract: the slice of measures is refused, or the sheet is written and the
 -- answer laid out.
 use borrow.Author.Needs.{needs}
-use Rattle.platemaker.proofs.Laid.{write-uncounted, write-counted}
+use Rattle.platemaker.proofs.Laid.{count-refused, count-taken}
 use Rattle.platemaker.proofs.pm_write_sheet.Statement.{statement}
 use Rattle.platemaker.proofs.pm_write_sheet.Tie as tie
 
 returns : tie.Need-returns
-returns c = write-uncounted _ _ _ _ _ _ _ (c .if1 .taken)
+returns c =
+    count-refused _ _ _ _ _ _ (c .if1 .taken)
 
 measures-of-requires : tie.Need-measures-of-requires
 measures-of-requires c κs = search needs
@@ -26,7 +27,7 @@ returns-2 c =
     let measured : tie.After-measures-of = search in
     let called : tie.After-write-sheet = search in
     let laid : tie.After-lay-writing = search in
-    write-counted _ _ _ _ _ _ _ (taken .if1 .left) (measured .measures-of .ensures) (called .write-sheet .ensures)
+    count-taken _ _ _ _ _ _ (taken .if1 .left) (rw (measured .measures-of .ensures) at (called .write-sheet .ensures))
     (laid .lay-writing .ensures)
 
 pub pm-write-sheet-spec : {M : Type 1} → statement M

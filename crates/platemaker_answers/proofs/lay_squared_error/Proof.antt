@@ -12,7 +12,9 @@ enum-known-answer-2 : tie.Need-enum-known-answer-2
 enum-known-answer-2 c = search needs
 
 returns : tie.Need-returns
-returns c = rw (c .before .answer .given .1) (refl, held-whole (c .known-told .given .0 .1))
+returns c =
+    let read : tie.After-answer = search in
+    rw (read .answer .given .1) (record { status-is = refl; behind-is = held-whole (c .known-told .given .0 .1) })
 
 returns-2 : tie.Need-returns-2
 returns-2 c = search needs

@@ -3,6 +3,7 @@ use mathlib.Core.Path.{refl, subst}
 use borrow.Author.Needs.{needs}
 use Rattle.model.specs.Sheet.{InRange}
 use Rattle.model.specs.FiledCalls.{checkedOf}
+use Rattle.model.proofs.Interface.{two-behind}
 use Rattle.platemaker_numbers.specs.Storable.{Holds}
 use Rattle.platemaker_filed.proofs.lay_checked.Statement.{statement}
 use Rattle.platemaker_filed.proofs.lay_checked.Tie as tie
@@ -26,10 +27,13 @@ returns : tie.Need-returns
 returns c =
     let stored : tie.After-store-verdict = search in
     let read : tie.After-answer = search in
-    rw (read .answer .given .1) (refl, stored .store-verdict .ensures, refl)
+    rw (read .answer .given .1)
+    (record { status-is = refl; behind-is = two-behind (stored .store-verdict .ensures) refl })
 
 returns-2 : tie.Need-returns-2
-returns-2 c = search needs
+returns-2 c =
+    let read : tie.After-answer2 = search in
+    rw (read .answer2 .given .1) (record { status-is = refl; behind-is = refl })
 
 pub lay-checked-spec : {M : Type 1} → statement M
 lay-checked-spec =

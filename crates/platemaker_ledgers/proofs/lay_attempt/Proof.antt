@@ -1,6 +1,7 @@
 -- `platemaker_ledgers::lay_attempt` meets its contract, case by case of the answer.
 use mathlib.Core.Path.{refl}
 use borrow.Author.Needs.{needs}
+use Rattle.model.proofs.Interface.{two-behind}
 use Rattle.platemaker_numbers.proofs.Slices.{held-whole}
 use Rattle.platemaker_ledgers.proofs.lay_attempt.Statement.{statement}
 use Rattle.platemaker_ledgers.proofs.lay_attempt.Tie as tie
@@ -10,9 +11,9 @@ enum-known-answer c = search needs
 
 store-stats-requires : tie.Need-store-stats-requires
 store-stats-requires c κs =
-    let k = c .before .before in
-    let s = k .before .before in
-    (s .pre .0, rw (k .answer .given .1) at (s .pre .1))
+    let read : tie.After-answer = search in
+    let s : tie.Start = search in
+    (s .pre .0, rw (read .answer .given .1) at (s .pre .1))
 
 enum-known-answer-2 : tie.Need-enum-known-answer-2
 enum-known-answer-2 c = search needs
@@ -25,15 +26,23 @@ same-length c = search needs
 
 returns : tie.Need-returns
 returns c =
-    let p = c .before in
-    let k = p .before .before in
-    rw (k .before .answer .given .1) (refl, p .store-stats .ensures, held-whole (k .known-told .given .1 .0 .1))
+    let stored : tie.After-store-stats = search in
+    let told : tie.After-known-told = search in
+    let read : tie.After-answer = search in
+    let change = held-whole (told .known-told .given .1 .0 .1) in
+    rw (read .answer .given .1)
+    (record { status-is = refl; behind-is = two-behind (stored .store-stats .ensures) change })
 
 returns-2 : tie.Need-returns-2
-returns-2 c = rw (c .before .answer2 .given .1) (refl, refl, held-whole (c .known-told2 .given .0 .1))
+returns-2 c =
+    let read : tie.After-answer2 = search in
+    let change = held-whole (c .known-told2 .given .0 .1) in
+    rw (read .answer2 .given .1) (record { status-is = refl; behind-is = two-behind refl change })
 
 returns-3 : tie.Need-returns-3
-returns-3 c = search needs
+returns-3 c =
+    let read : tie.After-answer3 = search in
+    rw (read .answer3 .given .1) (record { status-is = refl; behind-is = refl })
 
 pub lay-attempt-spec : {M : Type 1} → statement M
 lay-attempt-spec =

@@ -9,9 +9,9 @@ enum-known-answer c = search needs
 
 store-stats-requires : tie.Need-store-stats-requires
 store-stats-requires c κs =
-    let k = c .before .before in
-    let s = k .before .before in
-    (s .pre .0, rw (k .answer .given .1) at (s .pre .1))
+    let read : tie.After-answer = search in
+    let s : tie.Start = search in
+    (s .pre .0, rw (read .answer .given .1) at (s .pre .1))
 
 enum-known-answer-2 : tie.Need-enum-known-answer-2
 enum-known-answer-2 c = search needs
@@ -21,8 +21,9 @@ same-length c = search needs
 
 returns : tie.Need-returns
 returns c =
-    let p = c .before in
-    rw (p .before .before .before .answer .given .1) (refl, p .store-stats .ensures)
+    let stored : tie.After-store-stats = search in
+    let read : tie.After-answer = search in
+    rw (read .answer .given .1) (record { status-is = refl; behind-is = stored .store-stats .ensures })
 
 returns-2 : tie.Need-returns-2
 returns-2 c = search needs

@@ -1,4 +1,5 @@
 -- `platemaker_pictures::lay_picture` meets its contract, case by case of the answer.
+use mathlib.Core.Path.{refl}
 use borrow.Author.Needs.{needs}
 use Rattle.platemaker_pictures.proofs.lay_picture.Statement.{statement}
 use Rattle.platemaker_pictures.proofs.lay_picture.Tie as tie
@@ -10,10 +11,14 @@ enum-known-answer-2 : tie.Need-enum-known-answer-2
 enum-known-answer-2 c = search needs
 
 returns : tie.Need-returns
-returns c = search needs
+returns c =
+    let read : tie.After-answer = search in
+    rw (read .answer .given .1) (record { status-is = refl; behind-is = refl })
 
 returns-2 : tie.Need-returns-2
-returns-2 c = search needs
+returns-2 c =
+    let read : tie.After-answer2 = search in
+    rw (read .answer2 .given .1) (record { status-is = refl; behind-is = refl })
 
 pub lay-picture-spec : {M : Type 1} → statement M
 lay-picture-spec = tie.close (tie.spec enum-known-answer enum-known-answer-2 returns returns-2)

@@ -4,8 +4,9 @@ use Prim.Native.Nat.{_<_}
 use borrow.Author.Needs.{needs}
 use Rattle.model.specs.State.{LaterFits, toggleRefusal}
 use Rattle.model.specs.Calls.{laterCall, toggleCall}
-use Rattle.model.proofs.Calls.{both-refused, both-done}
+use Rattle.model.proofs.Calls.{ends-refused}
 use Rattle.model.proofs.Later.{toggle-enters}
+use Rattle.invariants.proofs.Plate.{slice-bytes, leaves-ends}
 use Rattle.search.proofs.try_toggle.Statement.{statement}
 use Rattle.search.proofs.try_toggle.Tie as tie
 
@@ -20,33 +21,37 @@ same-length-2 c = search needs
 
 returns : tie.Need-returns
 unfolding toggleCall laterCall
-returns c = both-refused _ _ _ _ (c .before .judge-toggle .ensures) (c .if1 .taken)
+returns c = ends-refused _ _ _ (c .before .judge-toggle .ensures) (c .if1 .taken)
 
 -- what is known once nothing is refused
-module _ (c : tie.Else1) where
+module _ (e : tie.Else1) where
   abbrev s : tie.Start
-  s = c .before .before .before .before .before .before .before
+  s = search
 
   taken : toggleRefusal (s .args .measures) (s .args .psf .now) (s .args .gray .now) (s .args .dots .now)
-      (s .args .table .now) (s .args .stats) (s .args .row) (s .args .col) ≡ 0
-  taken = sym (c .before .judge-toggle .ensures) ∙ c .if1 .left
+      (s .args .table .now) (s .args .stats) (s .args .at .row) (s .args .at .col) ≡ 0
+  taken = sym (e .before .judge-toggle .ensures) ∙ e .if1 .left
 
   enters : LaterFits (s .args .measures) (s .args .psf .now) (s .args .gray .now) (s .args .dots .now)
       (s .args .table .now) (s .args .stats)
-      × (s .args .row < s .args .measures .height) × (s .args .col < s .args .measures .width)
+      × (s .args .at .row < s .args .measures .height) × (s .args .at .col < s .args .measures .width)
   enters = toggle-enters _ _ _ _ _ _ _ _ taken
 
 kernel-requires : tie.Need-kernel-requires
-kernel-requires c κs = enters c .0 .plate .halftone .psf-fits
+kernel-requires c κs = let e : tie.Else1 = search in enters e .0 .plate .halftone .psf-fits
 
 slice-aggregate-toggle : tie.Need-slice-aggregate-toggle
 slice-aggregate-toggle c = search needs
 
 toggle-requires : tie.Need-toggle-requires
 toggle-requires c κs =
-    let k = c .before .before .before in
-    let (fits, row, col) = enters (k .before) in
-    (fits, (k .kernel .ensures, (row, col)))
+    let e : tie.Else1 = search in
+    let k : tie.After-kernel = search in
+    let known : tie.After-shared-slice-known2 = search in
+    let (fits, row, col) = enters e in (
+      record { later = fits; kernel = k .kernel .ensures; bytes = slice-bytes (known .shared-slice-known2 .given) },
+      record { row-below = row; col-below = col },
+    )
 
 same-length-3 : tie.Need-same-length-3
 same-length-3 c = search needs
@@ -55,12 +60,11 @@ same-length-4 : tie.Need-same-length-4
 same-length-4 c = search needs
 
 returns-2 : tie.Need-returns-2
-unfolding toggleCall laterCall
+unfolding toggleCall
 returns-2 c =
-    let k = c .before .before .before in
-    let e = k .before .before .before .before .before in
-    let (reply, left) = both-done _ _ _ _ (taken e) (k .toggle .ensures .1 .0) (k .toggle .ensures .1 .1) in
-    (k .toggle .ensures .0 ∙ reply, left)
+    let e : tie.Else1 = search in
+    let tried : tie.After-toggle = search in
+    leaves-ends (s e .args .dots .now) (s e .args .table .now) (taken e) (tried .toggle .ensures)
 
 pub try-toggle-spec : {M : Type 1} → statement M
 try-toggle-spec =

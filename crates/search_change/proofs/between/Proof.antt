@@ -39,10 +39,10 @@ add-right c = search needs
 module _ (s : tie.Start) where
   -- the entry's row and column, counted from the corner of the square
   abbrev down : ℕ
-  down = s .args .row + 2 * s .args .radius - s .args .row2
+  down = s .args .at .row + 2 * s .args .radius - s .args .to .row
 
   abbrev along : ℕ
-  along = s .args .col + 2 * s .args .radius - s .args .col2
+  along = s .args .at .col + 2 * s .args .radius - s .args .to .col
 
   abbrev entry : ℤ
   entry = getD (s .args .c .now) (down * (4 * s .args .radius + 1) + along) (pos 0)
@@ -51,25 +51,25 @@ module _ (s : tie.Start) where
   abbrev meant : ℤ
   meant =
       squareAt (pos 0) (2 * s .args .radius) (s .args .c .now)
-      (pos (s .args .row) -ℤ pos (s .args .row2)) (pos (s .args .col) -ℤ pos (s .args .col2))
+      (pos (s .args .at .row) -ℤ pos (s .args .to .row)) (pos (s .args .at .col) -ℤ pos (s .args .to .col))
 
-  outside : Far (2 * s .args .radius) (s .args .row2) (s .args .row)
-      ⊎ Far (2 * s .args .radius) (s .args .col2) (s .args .col) → pos 0 ≡ meant
+  outside : Far (2 * s .args .radius) (s .args .to .row) (s .args .at .row)
+      ⊎ Far (2 * s .args .radius) (s .args .to .col) (s .args .at .col) → pos 0 ≡ meant
   outside far =
       sym (squareAt-outside (pos 0) (2 * s .args .radius) (s .args .c .now)
-      (s .args .row2) (s .args .col2) (s .args .row) (s .args .col) far)
+      (s .args .to .row) (s .args .to .col) (s .args .at .row) (s .args .at .col) far)
 
 returns : tie.Need-returns
-returns c = outside (c .before) (inl (inl (omega arith)))
+returns c = let s : tie.Start = search in outside s (inl (inl (omega arith)))
 
 returns-2 : tie.Need-returns-2
-returns-2 c = outside (c .before .before) (inr (inl (omega arith)))
+returns-2 c = let s : tie.Start = search in outside s (inr (inl (omega arith)))
 
 returns-3 : tie.Need-returns-3
-returns-3 c = outside (c .before .before .before) (inl (inr (omega arith)))
+returns-3 c = let s : tie.Start = search in outside s (inl (inr (omega arith)))
 
 returns-4 : tie.Need-returns-4
-returns-4 c = outside (c .before .before .before .before) (inr (inr (omega arith)))
+returns-4 c = let s : tie.Start = search in outside s (inr (inr (omega arith)))
 
 mul-result : tie.Need-mul-result
 mul-result c = factors-fit 13 13 (omega arith) (omega arith) tt
@@ -79,23 +79,23 @@ add-result c = index-fits _ _ _ (omega arith) (omega arith) (omega arith)
 
 mul-result-2 : tie.Need-mul-result-2
 mul-result-2 c =
-    let s = c .before .before .before .before in
+    let s : tie.Start = search in
     let n = 4 * s .args .radius + 1 in
     omega (arith, mul-le-mul {n₁ = down s} {m₁ = n} {n₂ = 13} {m₂ = 13} (omega arith) (omega arith))
 
 shared-slice-copy-out-result : tie.Need-shared-slice-copy-out-result
 shared-slice-copy-out-result c =
-    let s = c .before .before .before .before in
-    lt-of-lt-of-le (cell< (omega arith) (omega arith)) (s .pre .0 .1)
+    let s : tie.Start = search in
+    lt-of-lt-of-le (cell< (omega arith) (omega arith)) (s .pre .0 .long)
 
 returns-5 : tie.Need-returns-5
 returns-5 c =
-    let s = c .before .before .before .before .before in
+    let s : tie.Start = search in
     let read : toZ w32 (ofZ w32 (entry s)) ≡ entry s = search needs in
     read
     ∙ ap (λ n. getD (s .args .c .now) (down s * n + along s) (pos 0)) (sym (side (s .args .radius)))
     ∙ sym (squareAt-inside (pos 0) (2 * s .args .radius) (s .args .c .now)
-    (s .args .row2) (s .args .col2) (s .args .row) (s .args .col)
+    (s .args .to .row) (s .args .to .col) (s .args .at .row) (s .args .at .col)
     (omega arith) (omega arith) (omega arith) (omega arith))
 
 pub between-spec : {M : Type 1} → statement M

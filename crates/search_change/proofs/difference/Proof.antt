@@ -8,7 +8,7 @@ use mir.Val.{ofZ}
 use borrow.Author.Needs.{needs}
 use Rattle.algebra.proofs.Machine.{Holds, of-small, size-of, sub-fits, sub-holds}
 use Rattle.model.specs.Change.{sign}
-use Rattle.model.specs.Window.{mostFiltered}
+use Rattle.model.specs.Error.{mostFiltered}
 use Rattle.search_change.proofs.Signs.{signed-holds}
 use Rattle.search_change.proofs.difference.Statement.{statement}
 use Rattle.search_change.proofs.difference.Tie as tie
@@ -38,17 +38,17 @@ module _ (s : tie.Start) where
 
 sub-signed : tie.Need-sub-signed
 sub-signed c =
-    let s = c .before .before .before .before in
+    let s : tie.Start = search in
     sub-fits (entry-held s (s .args .m)) (entry-held s (s .args .n)) (lit< tt)
 
 signed-requires : tie.Need-signed-requires
 signed-requires c κs =
-    let s = c .before .before .before .before in
+    let s : tie.Start = search in
     size-of (sub-holds (entry-held s (s .args .m)) (entry-held s (s .args .n)) (lit< tt))
 
 returns : tie.Need-returns
 returns c =
-    let s = c .before .before .before .before .before in
+    let s : tie.Start = search in
     let h =
     signed-holds (c .signed .result) (sign (s .args .dots .now) (s .args .m))
     (sub-holds (entry-held s (s .args .m)) (entry-held s (s .args .n)) (lit< tt)) (lit< tt) (c .signed .ensures) in

@@ -2,7 +2,7 @@
 -- either order.
 use mathlib.Core.Bool.{Bool, true, false, _&&_, not}
 use mathlib.Core.Path.{_≡_, refl, sym, ap, _∙_}
-use Prim.Native.Nat.{ℕ}
+use Prim.Native.Nat.{ℕ, _*_}
 use lib.Dec.{lit<, eqb}
 use lib.IntN.{ℤ, pos, _+ℤ_, _-ℤ_, _*ℤ_}
 use lib.ListN.{getD}
@@ -12,6 +12,8 @@ use mir.Val.{toZ, ofZ}
 use borrow.Author.Needs.{needs}
 use Rattle.algebra.proofs.Machine.{Holds, of-small, named, add-fits, add-holds}
 use Rattle.model.specs.Change.{sign}
+use Rattle.invariants.specs.Window.{mostWorth}
+use Rattle.model.specs.Error.{mostFiltered}
 use Rattle.search_change.proofs.lower_swap.Statement.{statement}
 use Rattle.search_change.proofs.lower_swap.Tie as tie
 
@@ -30,7 +32,7 @@ difference-requires c κs = search needs
 -- the two terms of the sum, as the locals hold them
 module _ (c : tie.After-difference) where
   abbrev s : tie.Start
-  s = c .before .before
+  s = search
 
   abbrev entry : ℕ → ℤ
   entry q = getD (s .args .table .now) q (pos 0)
@@ -38,10 +40,10 @@ module _ (c : tie.After-difference) where
   abbrev term : ℤ
   term = sign (s .args .dots .now) (s .args .m) *ℤ (entry (s .args .m) -ℤ entry (s .args .n))
 
-  first : Holds w32 (ofZ w32 (c .difference .result)) term 534773760
+  first : Holds w32 (ofZ w32 (c .difference .result)) term (2 * mostFiltered)
   first = named (c .difference .ensures .0) (of-small w32 (c .difference .result) (c .difference .ensures .1) (lit< tt))
 
-  second : Holds w32 (ofZ w32 (s .args .worth)) (s .args .worth) 534773760
+  second : Holds w32 (ofZ w32 (s .args .worth)) (s .args .worth) mostWorth
   second = of-small w32 (s .args .worth) (s .pre .1 .1) (lit< tt)
 
   -- the test as the code makes it
@@ -61,12 +63,13 @@ shared-slice-read-result-2 c = search needs
 
 returns : tie.Need-returns
 returns c =
-    let d : tie.After-difference = c .before .before .before in
-    and-true _ _ (sym (sum-is d) ∙ c .before .before .if1 .taken)
+    let below : tie.Then1 = search in
+    let d : tie.After-difference = search in
+    and-true _ _ (sym (sum-is d) ∙ below .if1 .taken)
 
 returns-2 : tie.Need-returns-2
 returns-2 c =
-    let d : tie.After-difference = c .before in
+    let d : tie.After-difference = search in
     and-false (not (eqb (getD (s d .args .dots .now) (s d .args .m) 0) (getD (s d .args .dots .now) (s d .args .n) 0)))
     _ (sym (sum-is d) ∙ c .if1 .left)
 

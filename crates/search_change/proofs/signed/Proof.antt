@@ -10,7 +10,7 @@ use borrow.Author.Tests.{eq-eqb, ne-eqb}
 use Rattle.algebra.proofs.Solver.{ring!, reify}
 use Rattle.algebra.proofs.Order.{natAbs-negℤ}
 use Rattle.algebra.proofs.Machine.{Holds, literal, of-small, sub-fits, sub-holds}
-use Rattle.model.specs.Window.{mostFiltered}
+use Rattle.model.specs.Error.{mostFiltered}
 use Rattle.search_change.proofs.signed.Statement.{statement}
 use Rattle.search_change.proofs.signed.Tie as tie
 

@@ -7,12 +7,15 @@ use lib.IntN.{ℤ, pos, _*ℤ_}
 use lib.ListN.{getD}
 use mir.Syntax.{w32, w64}
 use mir.Val.{toZ, ofZ}
+use native.Mathlib.Omega.{arith}
 use borrow.Author.Needs.{needs}
 use Rattle.algebra.proofs.Ring.{*ℤ-assoc}
 use Rattle.algebra.proofs.Machine.{Holds, literal, of-small, named, size-of, cast-fits, cast-holds}
 use Rattle.algebra.proofs.Machine.{add-fits, add-holds, mul-fits, mul-holds}
 use Rattle.model.specs.Change.{sign, toggleSum}
-use Rattle.model.specs.Window.{mostFiltered}
+use Rattle.model.specs.Error.{mostFiltered}
+use Rattle.invariants.specs.Window.{mostKernel}
+use Prim.Native.Nat.{_*_}
 use Rattle.search_change.proofs.Signs.{signed-holds}
 use Rattle.search_change.proofs.toggle_change.Statement.{statement}
 use Rattle.search_change.proofs.toggle_change.Tie as tie
@@ -34,16 +37,16 @@ module _ (s : tie.Start) where
   entry-held : Holds w32 (ofZ w32 entry) entry mostFiltered
   entry-held = of-small w32 entry (s .pre .1 .1 .each (s .args .m)) (lit< tt)
 
-  peak-held : Holds w32 (ofZ w32 (s .args .peak)) (s .args .peak) 1048576
+  peak-held : Holds w32 (ofZ w32 (s .args .peak)) (s .args .peak) mostKernel
   peak-held = of-small w32 (s .args .peak) (s .pre .1 .0) (lit< tt)
 
 signed-requires : tie.Need-signed-requires
-signed-requires c κs = le-trans (size-of (entry-held (c .before .before .before))) (lit≤ tt)
+signed-requires c κs = let s : tie.Start = search in le-trans (size-of (entry-held s)) (lit≤ tt)
 
 -- the two terms of the sum
 module _ (c : tie.After-signed) where
   abbrev s : tie.Start
-  s = c .before .before .before .before
+  s = search
 
   -- s(m)
   abbrev turn : ℤ
@@ -52,10 +55,10 @@ module _ (c : tie.After-signed) where
   signed : Holds w32 (ofZ w32 (c .signed .result)) (turn *ℤ entry s) mostFiltered
   signed = signed-holds (c .signed .result) turn (entry-held s) (lit< tt) (c .signed .ensures)
 
-  first : Holds w32 (ofZ w32 (pos 2 *ℤ toZ w32 (ofZ w32 (c .signed .result)))) (pos 2 *ℤ turn *ℤ entry s) 534773760
+  first : Holds w32 (ofZ w32 (pos 2 *ℤ toZ w32 (ofZ w32 (c .signed .result)))) (pos 2 *ℤ turn *ℤ entry s) (2 * mostFiltered)
   first = named (sym (*ℤ-assoc (pos 2) turn (entry s))) (mul-holds (literal w32 2 tt) signed (lit< tt))
 
-  second : Holds w32 (ofZ w32 (pos 255 *ℤ toZ w32 (ofZ w32 (s .args .peak)))) (pos 255 *ℤ s .args .peak) 267386880
+  second : Holds w32 (ofZ w32 (pos 255 *ℤ toZ w32 (ofZ w32 (s .args .peak)))) (pos 255 *ℤ s .args .peak) mostFiltered
   second = mul-holds (literal w32 255 tt) (peak-held s) (lit< tt)
 
 mul-result : tie.Need-mul-result
@@ -79,7 +82,7 @@ unfolding toggleSum
 returns c =
     let sum = cast-holds w64 (add-holds (first c) (second c) (lit< tt)) (lit< tt) in
     let h = mul-holds (literal w64 255 tt) sum (lit< tt) in
-    (h .value, size-of h)
+    (h .value, omega (arith, size-of h))
 
 pub toggle-change-spec : {M : Type 1} → statement M
 toggle-change-spec =

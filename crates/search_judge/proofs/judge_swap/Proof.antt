@@ -1,49 +1,36 @@
--- `search::judge_swap` meets its contract: 1 to 7, then 8 and 9, then 20, 21 and 22, each part with a judge of its
--- own.
-use mathlib.Core.List.{List, [], _∷_, _++_}
+-- `search_judge::judge_swap` meets its contract: 1 to 7, then 8 and 9, then 20, 21 and 22, each part with a judge of
+-- its own.
+use mathlib.Core.List.{[], _∷_}
 use mathlib.Core.Path.{_≡_}
 use Prim.Native.Nat.{_<_}
 use borrow.Author.Needs.{needs}
 use native.Mathlib.Omega.{arith}
-use lib.ListN.{length}
 use Rattle.algebra.proofs.Grid.{cell<}
-use Rattle.algebra.proofs.Machine.{factors-fit}
-use Rattle.model.specs.Error.{cellAt}
-use Rattle.model.specs.Refusal.{Refusal, firstOf, badCells, badPair, HalftoneFits, inputRefusals}
+use Rattle.model.specs.Refusal.{firstOf, badCells, badPair}
 use Rattle.model.specs.Ledger.{wrongStats}
-use Rattle.model.specs.State.{badTable, badLike, stateRefusals, swapRefusal}
-use Rattle.model.proofs.Refusal.{none, by-first, by-either, by-second, plate-fits}
+use Rattle.model.specs.State.{Asked, swapAsked, badTable, swapRefusal}
+use Rattle.model.proofs.Refusal.{none}
+use Rattle.invariants.proofs.Refusal.{by-either}
 use Rattle.model.proofs.Later.{cells-inside}
-use Rattle.filter_window.proofs.Rows.{index-fits}
+use Rattle.search_judge.proofs.Lists.{Later, Fits, state, input-fits, by-input, by-named, by-rest}
 use Rattle.search_judge.proofs.judge_swap.Statement.{statement}
 use Rattle.search_judge.proofs.judge_swap.Tie as tie
 
-module _ (s : tie.Start) where
-  abbrev input : List Refusal
-  input =
-      inputRefusals (s .args .measures) (s .args .psf .now) (s .args .gray .now) (s .args .dots .now)
-      (length (s .args .table .now))
+-- what the call is handed
+abbrev handed : tie.Start → Later
+handed s = record {
+  measures = s .args .measures;
+  psf = s .args .psf .now;
+  gray = s .args .gray .now;
+  dots = s .args .dots .now;
+  table = s .args .table .now;
+  stats = s .args .stats;
+}
 
-  abbrev cells : Refusal
-  cells =
-      badCells (s .args .measures .width) (s .args .measures .height)
-      (s .args .row) (s .args .col) (s .args .row2) (s .args .col2)
-
-  abbrev pair : Refusal
-  pair = badPair (s .args .measures .reach) (s .args .row) (s .args .col) (s .args .row2) (s .args .col2)
-
-  abbrev named : List Refusal
-  named = cells ∷ pair ∷ []
-
-  abbrev like : List Refusal
-  like =
-      badLike (s .args .dots .now) (cellAt (s .args .measures .width) (s .args .row) (s .args .col))
-      (cellAt (s .args .measures .width) (s .args .row2) (s .args .col2)) ∷ []
-
-  abbrev state : List Refusal
-  state =
-      stateRefusals (s .args .measures) (s .args .psf .now) (s .args .gray .now) (s .args .dots .now)
-      (s .args .table .now) (s .args .stats)
+abbrev asked : tie.Start → Asked
+asked s =
+    swapAsked (s .args .measures) (s .args .dots .now)
+    (s .args .at .row) (s .args .at .col) (s .args .to .row) (s .args .to .col)
 
 judge-later-requires : tie.Need-judge-later-requires
 judge-later-requires c κs = search needs
@@ -51,8 +38,8 @@ judge-later-requires c κs = search needs
 returns : tie.Need-returns
 unfolding swapRefusal
 returns c =
-    let s = c .before .before .before .before .before in
-    by-first (input s) (named s ++ (state s ++ like s)) tt (c .before .judge-later .ensures) (c .if1 .taken)
+    let s : tie.Start = search in
+    by-input (handed s) (asked s) (c .before .judge-later .ensures) (c .if1 .taken)
 
 judge-cells-requires : tie.Need-judge-cells-requires
 judge-cells-requires c κs = search needs
@@ -65,84 +52,90 @@ first-requires c κs = search needs
 
 -- 8 and 9 together
 module _ (c : tie.After-first) where
-  abbrev e : tie.Else1
-  e = c .before .before .before
+  s : tie.Start
+  s = search
 
-  abbrev s : tie.Start
-  s = e .before .before .before .before .before
+  cells : tie.After-judge-cells
+  cells = search
 
-  named-is : c .first .result ≡ firstOf (named s)
+  named-is : c .first .result ≡ firstOf (asked s .named)
+  unfolding s cells
   named-is =
-      by-either (cells s ∷ []) (pair s ∷ []) tt
-      (c .before .before .judge-cells .ensures) (c .before .judge-pair .ensures) (c .first .ensures)
+      let a = s .args in
+      by-either
+      (badCells (a .measures .width) (a .measures .height) (a .at .row) (a .at .col) (a .to .row) (a .to .col) ∷ [])
+      (badPair (a .measures .reach) (a .at .row) (a .at .col) (a .to .row) (a .to .col) ∷ []) tt
+      (cells .judge-cells .ensures) (c .before .judge-pair .ensures) (c .first .ensures)
 
 returns-2 : tie.Need-returns-2
-unfolding swapRefusal
+unfolding swapRefusal s
 returns-2 c =
-    let f = c .before in
-    by-second (input (s f)) (named (s f) ++ (state (s f) ++ like (s f))) tt
-    (e f .before .judge-later .ensures) (e f .if1 .left)
-    (by-first (named (s f)) (state (s f) ++ like (s f)) tt (named-is f) (c .if2 .taken))
+    let input : tie.Else1 = search in
+    let n = c .before in
+    by-named (handed (s n)) (asked (s n)) (input .before .judge-later .ensures) (input .if1 .left) tt
+    (named-is n) (c .if2 .taken)
 
--- once 1 to 9 are judged
+-- once 1 to 9 are judged the plate fits, and the cells are on it
 module _ (c : tie.Else2) where
-  abbrev a : tie.Start
-  a = s (c .before)
+  passed : tie.Else1
+  passed = search
 
-  fits : HalftoneFits (a .args .measures .width) (a .args .measures .height) (a .args .measures .radius)
-      (a .args .psf .now) (a .args .gray .now) (a .args .dots .now) (length (a .args .table .now))
-  fits =
-      plate-fits (a .args .measures) _ _ _ (length (a .args .table .now))
-      (none (input a) tt (e (c .before) .before .judge-later .ensures) (e (c .before) .if1 .left)) .halftone
+  fits : Fits (handed (s (c .before)))
+  unfolding s passed
+  fits = input-fits (handed (s (c .before))) (passed .before .judge-later .ensures) (passed .if1 .left)
 
-  on : ((a .args .row < a .args .measures .height) × (a .args .col < a .args .measures .width))
-      × ((a .args .row2 < a .args .measures .height) × (a .args .col2 < a .args .measures .width))
-  on = cells-inside _ _ (a .args .measures .reach) _ _ _ _ (none (named a) tt (named-is (c .before)) (c .if2 .left))
+  on : let a = s (c .before) .args in
+      ((a .at .row < a .measures .height) × (a .at .col < a .measures .width))
+      × ((a .to .row < a .measures .height) × (a .to .col < a .measures .width))
+  on =
+      let n = c .before in
+      cells-inside _ _ (s n .args .measures .reach) _ _ _ _ (none (asked (s n) .named) tt (named-is n) (c .if2 .left))
 
 judge-state-requires : tie.Need-judge-state-requires
+unfolding s
 judge-state-requires c κs = fits c
 
-mul-m : tie.Need-mul-m
-mul-m c =
-    let f = fits (c .before .before) in
-    factors-fit 256 256 (omega (arith, f .high .1, on (c .before .before) .0 .0)) (f .wide .1) tt
+index-requires : tie.Need-index-requires
+unfolding s
+index-requires c κs =
+    let f = fits (c .before) in
+    let o = on (c .before) .0 in
+    (omega (arith, f .high .1, o .0), o .1, f .wide .1)
 
-add-m : tie.Need-add-m
-add-m c =
-    let f = fits (c .before .before) in
-    let o = on (c .before .before) .0 in
-    index-fits _ _ _ (omega (arith, f .high .1, o .0)) (f .wide .1) (omega (arith, f .wide .1, o .1))
-
-mul-n : tie.Need-mul-n
-mul-n c =
-    let f = fits (c .before .before .before) in
-    factors-fit 256 256 (omega (arith, f .high .1, on (c .before .before .before) .1 .0)) (f .wide .1) tt
-
-add-n : tie.Need-add-n
-add-n c =
-    let f = fits (c .before .before .before) in
-    let o = on (c .before .before .before) .1 in
-    index-fits _ _ _ (omega (arith, f .high .1, o .0)) (f .wide .1) (omega (arith, f .wide .1, o .1))
+index-requires-2 : tie.Need-index-requires-2
+unfolding s
+index-requires-2 c κs =
+    let e : tie.Else2 = search in
+    let f = fits e in
+    let o = on e .1 in
+    (omega (arith, f .high .1, o .0), o .1, f .wide .1)
 
 judge-like-requires : tie.Need-judge-like-requires
+unfolding s
 judge-like-requires c κs =
-    let f = fits (c .before .before .before) in
-    let (one, other) = on (c .before .before .before) in
-    (rw (f .dots-length) (cell< (one .0) (one .1)), rw (f .dots-length) (cell< (other .0) (other .1)))
+    let e : tie.Else2 = search in
+    let f = fits e in
+    let (one, other) = on e in (
+      rw (c .before .index .ensures, f .dots-length) (cell< (one .0) (one .1)),
+      rw (c .index2 .ensures, f .dots-length) (cell< (other .0) (other .1)),
+    )
 
 first-requires-2 : tie.Need-first-requires-2
 first-requires-2 c κs = search needs
 
 returns-3 : tie.Need-returns-3
-unfolding swapRefusal badTable wrongStats
+unfolding swapRefusal badTable wrongStats s
 returns-3 c =
-    let k = c .before .before .before .before in
-    let f = k .before .before in
-    by-second (input (s f)) (named (s f) ++ (state (s f) ++ like (s f))) tt
-    (e f .before .judge-later .ensures) (e f .if1 .left)
-    (by-second (named (s f)) (state (s f) ++ like (s f)) tt (named-is f) (k .before .if2 .left)
-    (by-either (state (s f)) (like (s f)) tt (k .judge-state .ensures) (c .before .judge-like .ensures)
-    (c .first2 .ensures)))
+    let input : tie.Else1 = search in
+    let named : tie.Else2 = search in
+    let judged : tie.After-judge-state = search in
+    let one : tie.After-index = search in
+    let other : tie.After-index2 = search in
+    let n = named .before in
+    by-rest (handed (s n)) (asked (s n)) (input .before .judge-later .ensures) (input .if1 .left) tt
+    (named-is n) (named .if2 .left)
+    (by-either (state (handed (s n))) (asked (s n) .last) tt (judged .judge-state .ensures)
+    (rw (one .index .ensures, other .index2 .ensures) at (c .before .judge-like .ensures)) (c .first2 .ensures))
 
 pub judge-swap-spec : {M : Type 1} → statement M
 judge-swap-spec =
@@ -155,10 +148,8 @@ judge-swap-spec =
     first-requires
     returns-2
     judge-state-requires
-    mul-m
-    add-m
-    mul-n
-    add-n
+    index-requires
+    index-requires-2
     judge-like-requires
     first-requires-2
     returns-3)

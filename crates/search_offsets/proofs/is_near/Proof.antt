@@ -1,4 +1,4 @@
--- `search_partners::is_near` meets its contract: the first test answers where it fails, and else the second.
+-- `search_offsets::is_near` meets its contract: the first test answers where it fails, and else the second.
 use mathlib.Core.Path.{refl}
 use Prim.Native.Nat.{_+_}
 use native.Mathlib.Omega.{arith}
@@ -14,10 +14,10 @@ add-result : tie.Need-add-result
 add-result c = search needs
 
 returns : tie.Need-returns
-returns c = let a = c .before .args in rw (le-leb 6 (a .coordinate + a .reach) (omega arith)) refl
+returns c = let s : tie.Start = search in rw (le-leb 6 (s .args .coordinate + s .args .reach) (omega arith)) refl
 
 returns-2 : tie.Need-returns-2
-returns-2 c = let a = c .before .args in rw (lt-leb 6 (a .coordinate + a .reach) (omega arith)) refl
+returns-2 c = let s : tie.Start = search in rw (lt-leb 6 (s .args .coordinate + s .args .reach) (omega arith)) refl
 
 pub is-near-spec : {M : Type 1} → statement M
 is-near-spec = tie.close (tie.spec add-if1 add-result returns returns-2)

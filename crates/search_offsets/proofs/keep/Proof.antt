@@ -1,6 +1,6 @@
--- `search_partners::keep` meets its contract: of the codes passed, those within reach have been written in their order.
+-- `search_offsets::keep` meets its contract: of the codes passed, those within reach have been written in their order.
 use mathlib.Core.Bool.{Bool, true, false}
-use mathlib.Core.List.{List, [], _∷_, _++_, append-nil, map, map-append}
+use mathlib.Core.List.{List, [], _∷_, _++_, append-nil}
 use mathlib.Core.Path.{_≡_, refl, sym, _∙_, ap}
 use Prim.Native.Nat.{ℕ, _+_, _-_, _≤_, _<_}
 use native.Mathlib.Numerals.{add-one}
@@ -8,7 +8,7 @@ use native.Mathlib.Omega.{arith}
 use lib.ListN.{length, getD, take, set, length-set}
 use lib.Seq.{take-all, take-suc, take-suc-set}
 use Rattle.model.specs.Basic.{pick}
-use Rattle.search_offsets.specs.Codes.{rowOf, columnOf, within, kept, Keeps}
+use Rattle.search_offsets.specs.Codes.{within, kept}
 use Rattle.search_offsets.proofs.keep.Statement.{statement}
 use Rattle.search_offsets.proofs.keep.Tie as tie
 
@@ -28,19 +28,19 @@ kept-more reach (x ∷ l) code = go (within reach x) (kept-more reach l code)
     go true e = ap (λ m. x ∷ m) e
     go false e = e
 
-none : (reach : ℕ) (downs rights : List ℕ) → Keeps reach [] downs rights 0
-unfolding kept
-none reach downs rights = record { fits = (omega arith, omega arith); rows = refl; columns = refl }
-
--- after k codes: `count` of them kept, in lists as long as they were
-record Keeping (codes : List ℕ) (reach : ℕ) (downs₀ rights₀ downs rights : List ℕ) (count k : ℕ) : Type 0 where
+-- after k codes: the first `count` entries are those kept of them
+record Keeping (codes : List ℕ) (reach : ℕ) (out₀ out : List ℕ) (count k : ℕ) : Type 0 where
   passed : k ≤ length codes
   few : count ≤ k
-  long : (length downs ≡ length downs₀) × (length rights ≡ length rights₀)
-  keeps : Keeps reach (take k codes) downs rights count
+  long : length out ≡ length out₀
+  keeps : take count out ≡ kept reach (take k codes)
 
-module _ {codes : List ℕ} {reach : ℕ} {downs₀ rights₀ downs rights : List ℕ} {count k : ℕ}
-    (s : Keeping codes reach downs₀ rights₀ downs rights count k) (more : k < length codes) where
+none : (codes : List ℕ) (reach : ℕ) (out : List ℕ) → Keeping codes reach out out 0 0
+unfolding kept
+none codes reach out = record { passed = omega arith; few = omega arith; long = refl; keeps = refl }
+
+module _ {codes : List ℕ} {reach : ℕ} {out₀ out : List ℕ} {count k : ℕ}
+    (s : Keeping codes reach out₀ out count k) (more : k < length codes) where
   abbrev code : ℕ
   code = getD codes k 0
 
@@ -52,64 +52,37 @@ module _ {codes : List ℕ} {reach : ℕ} {downs₀ rights₀ downs rights : Lis
       ∙ kept-more reach (take k codes) code
       ∙ ap (λ b. kept reach (take k codes) ++ pick b (code ∷ []) []) e)
 
-  module _ (fits : (length codes ≤ length downs) × (length codes ≤ length rights)) (e : within reach code ≡ true) where
-    -- f of it is written after the others
-    written : (f : ℕ → ℕ) (l : List ℕ) → count < length l → take count l ≡ map f (kept reach (take k codes))
-        → take (count + 1) (set l count (f code)) ≡ map f (kept reach (take (k + 1) codes))
-    written f l h g =
-        ap (λ n. take n (set l count (f code))) (add-one count)
-        ∙ take-suc-set l count (f code) h
-        ∙ ap (λ m. m ++ (f code ∷ [])) g
-        ∙ sym (map-append f (kept reach (take k codes)) (code ∷ []))
-        ∙ ap (map f) (next e)
+  kept-one : length codes ≤ length out → within reach code ≡ true
+      → Keeping codes reach out₀ (set out count code) (count + 1) (k + 1)
+  kept-one fits e =
+      record {
+        passed = omega arith;
+        few = omega arith;
+        long = length-set out count code ∙ s .long;
+        keeps =
+            ap (λ n. take n (set out count code)) (add-one count)
+            ∙ take-suc-set out count code (omega arith)
+            ∙ ap (λ l. l ++ (code ∷ [])) (s .keeps)
+            ∙ next e;
+      }
 
-    kept-one : Keeping codes reach downs₀ rights₀
-        (set downs count (rowOf code)) (set rights count (columnOf code)) (count + 1) (k + 1)
-    kept-one =
-        record {
-          passed = omega arith;
-          few = omega arith;
-          long = (length-set downs count _ ∙ s .long .0, length-set rights count _ ∙ s .long .1);
-          keeps =
-              record {
-                fits = (simp length-set (omega arith), simp length-set (omega arith));
-                rows = written rowOf downs (omega arith) (s .keeps .rows);
-                columns = written columnOf rights (omega arith) (s .keeps .columns);
-              };
-        }
-
-  left-out : within reach code ≡ false → Keeping codes reach downs₀ rights₀ downs rights count (k + 1)
+  left-out : within reach code ≡ false → Keeping codes reach out₀ out count (k + 1)
   left-out e =
       record {
         passed = omega arith;
         few = omega arith;
         long = s .long;
-        keeps =
-            record {
-              fits = s .keeps .fits;
-              rows = s .keeps .rows ∙ ap (map rowOf) same;
-              columns = s .keeps .columns ∙ ap (map columnOf) same;
-            };
+        keeps = s .keeps ∙ sym (append-nil (kept reach (take k codes))) ∙ next e;
       }
-    where
-      same : kept reach (take k codes) ≡ kept reach (take (k + 1) codes)
-      same = sym (append-nil (kept reach (take k codes))) ∙ next e
 
 abbrev Inv-loop : tie.InvT-loop
-Inv-loop codes reach downs₀ rights₀ count₀ k₀ downs rights count k =
-    Keeping codes reach downs₀ rights₀ downs rights count k
+Inv-loop codes reach out₀ count₀ k₀ out count k = Keeping codes reach out₀ out count k
 
 abbrev μ-loop : tie.MeasureT-loop
-μ-loop codes reach downs₀ rights₀ count₀ k₀ downs rights count k = length codes - k
+μ-loop codes reach out₀ count₀ k₀ out count k = length codes - k
 
 loop-holds : tie.Need-loop-holds Inv-loop μ-loop
-loop-holds c =
-    record {
-      passed = omega arith;
-      few = omega arith;
-      long = (refl, refl);
-      keeps = none _ _ _;
-    }
+loop-holds c = none _ _ _
 
 shared-slice-read-code : tie.Need-shared-slice-read-code Inv-loop μ-loop
 shared-slice-read-code c = omega arith
@@ -118,13 +91,10 @@ add-k : tie.Need-add-k Inv-loop μ-loop
 add-k c = omega arith
 
 is-within-requires : tie.Need-is-within-requires Inv-loop μ-loop
-is-within-requires c κs = c .before .before .before .before .before .before .pre .0
+is-within-requires c κs = let s : tie.Start Inv-loop μ-loop = search in s .pre .0
 
-slice-write-downs : tie.Need-slice-write-downs Inv-loop μ-loop
-slice-write-downs c = omega arith
-
-slice-write-rights : tie.Need-slice-write-rights Inv-loop μ-loop
-slice-write-rights c = omega arith
+slice-write-out : tie.Need-slice-write-out Inv-loop μ-loop
+slice-write-out c = omega arith
 
 add-count : tie.Need-add-count Inv-loop μ-loop
 add-count c = omega arith
@@ -134,27 +104,29 @@ loop-less c = omega arith
 
 loop-again : tie.Need-loop-again Inv-loop μ-loop
 loop-again c =
-    let s = c .before .before .before .before .loop .inv in
-    kept-one s (omega arith) (omega arith, omega arith) (sym (c .before .is-within .ensures) ∙ c .if1 .taken)
+    let l : tie.At-loop Inv-loop μ-loop = search in
+    let w : tie.After-is-within Inv-loop μ-loop = search in
+    kept-one (l .loop .inv) (omega arith) (omega arith) (sym (w .is-within .ensures) ∙ c .if1 .taken)
 
 loop-less-2 : tie.Need-loop-less-2 Inv-loop μ-loop
 loop-less-2 c = omega arith
 
 loop-again-2 : tie.Need-loop-again-2 Inv-loop μ-loop
 loop-again-2 c =
-    let s = c .before .before .before .before .loop .inv in
-    left-out s (omega arith) (sym (c .before .is-within .ensures) ∙ c .if1 .left)
+    let l : tie.At-loop Inv-loop μ-loop = search in
+    let w : tie.After-is-within Inv-loop μ-loop = search in
+    left-out (l .loop .inv) (omega arith) (sym (w .is-within .ensures) ∙ c .if1 .left)
 
 same-length : tie.Need-same-length Inv-loop μ-loop
-same-length c = c .before .loop .inv .long .0
-
-same-length-2 : tie.Need-same-length-2 Inv-loop μ-loop
-same-length-2 c = c .before .loop .inv .long .1
+same-length c = let l : tie.At-loop Inv-loop μ-loop = search in l .loop .inv .long
 
 returns : tie.Need-returns Inv-loop μ-loop
 returns c =
-    let codes = c .before .before .before .before .before .args .codes .now in
-    rw (take-all (c .before .loop .k) codes (omega arith)) at (c .before .loop .inv .keeps)
+    let s : tie.Start Inv-loop μ-loop = search in
+    let l : tie.At-loop Inv-loop μ-loop = search in (
+      omega arith,
+      rw (take-all (l .loop .k) (s .args .codes .now) (omega arith)) at (l .loop .inv .keeps),
+    )
 
 pub keep-spec : {M : Type 1} → statement M
 keep-spec =
@@ -166,13 +138,11 @@ keep-spec =
     shared-slice-read-code
     add-k
     is-within-requires
-    slice-write-downs
-    slice-write-rights
+    slice-write-out
     add-count
     loop-less
     loop-again
     loop-less-2
     loop-again-2
     same-length
-    same-length-2
     returns)

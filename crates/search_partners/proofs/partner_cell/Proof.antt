@@ -1,88 +1,112 @@
--- `search_partners::partner_cell` meets its contract: each early return is one edge of the plate.
-use Prim.Native.Nat.{_<_}
+-- `search_partners::partner_cell` meets its contract: a row or a column above 6 less wraps past the plate, so each early
+-- return is two of its edges.
+use mathlib.Core.Logic.{_⊎_, inl, inr}
+use mathlib.Core.Path.{_≡_, _∙_, ap₂}
+use Prim.Native.Nat.{ℕ, _+_, _-_, _^_, _%_, _≤_, _<_}
+use native.Mathlib.Decide.{decLt}
 use native.Mathlib.Omega.{arith}
 use borrow.Author.Needs.{needs}
 use Rattle.algebra.proofs.Machine.{factors-fit}
-use Rattle.filter_window.proofs.Rows.{index-fits}
+use Rattle.model.specs.Error.{cellAt}
+use Rattle.invariants.specs.Partners.{rowOf, columnOf}
 use Rattle.search_partners.proofs.Landing.{off-top, off-bottom, off-left, off-right, on}
 use Rattle.search_partners.proofs.partner_cell.Statement.{statement}
 use Rattle.search_partners.proofs.partner_cell.Tie as tie
 
+-- 6 less, which wraps: below the limit it is just that, else it was above 6 less or past the limit
+less-on : (r a : ℕ) → (r + 6) % 2 ^ 64 ≡ a → r < 256 → a ≡ r + 6
+less-on r a e h = omega arith
+
+less-off : (r a limit : ℕ) → (r + 6) % 2 ^ 64 ≡ a → r < 2 ^ 64 → limit ≤ r → (a < 6) ⊎ (limit + 6 ≤ a)
+less-off r a limit e h l = go (decLt a 6)
+  where
+    go : Dec (a < 6) → (a < 6) ⊎ (limit + 6 ≤ a)
+    go (yes k) = inl k
+    go (no k) = inr (omega arith)
+
+either : {A B C : Type 0} → A ⊎ B → (A → C) → (B → C) → C
+either (inl a) f g = f a
+either (inr b) f g = g b
+
 mul-cells : tie.Need-mul-cells
 mul-cells c = factors-fit 256 256 (c .pre .3) (c .pre .2) tt
 
-add-y : tie.Need-add-y
-add-y c = search needs
+cast-wrapping-sub-usize : tie.Need-cast-wrapping-sub-usize
+cast-wrapping-sub-usize c = search needs
 
-add-x : tie.Need-add-x
-add-x c = search needs
+add-wrapping-sub-usize : tie.Need-add-wrapping-sub-usize
+add-wrapping-sub-usize c = search needs
 
--- the cell is on the plate
-across : (s : tie.Start) → s .args .at .col < s .args .width
-across s = s .pre .1
+wrapping-sub-usize-requires : tie.Need-wrapping-sub-usize-requires
+wrapping-sub-usize-requires c κs = search needs
 
 returns : tie.Need-returns
 returns c =
-    let s = c .before .before .before in
-    off-top (s .args .width) (s .args .height) (s .args .at .row) _ (across s) (s .args .down) (s .args .right)
-    (c .if1 .taken)
+    let s : tie.Start = search in
+    let less : tie.After-wrapping-sub-usize = search in
+    let a = s .args in
+    let y = less .wrapping-sub-usize in
+    either (less-off (y .result) _ (a .height) (y .ensures) (omega (arith, y .ok)) (c .if1 .taken))
+    (off-top (a .width) (a .height) (a .at .row) (a .at .col) (s .pre .1) (rowOf (a .code)) (columnOf (a .code)))
+    (off-bottom (a .width) (a .height) (a .at .row) (a .at .col) (s .pre .1) (rowOf (a .code)) (columnOf (a .code)))
+
+cast-wrapping-sub-usize-2 : tie.Need-cast-wrapping-sub-usize-2
+cast-wrapping-sub-usize-2 c = search needs
+
+add-wrapping-sub-usize-2 : tie.Need-add-wrapping-sub-usize-2
+add-wrapping-sub-usize-2 c = search needs
+
+wrapping-sub-usize-requires-2 : tie.Need-wrapping-sub-usize-requires-2
+wrapping-sub-usize-requires-2 c κs = search needs
 
 returns-2 : tie.Need-returns-2
 returns-2 c =
-    let s = c .before .before .before .before in
-    off-left (s .args .width) (s .args .height) (s .args .at .row) _ (across s) (s .args .down) (s .args .right)
-    (c .if2 .taken)
+    let s : tie.Start = search in
+    let less : tie.After-wrapping-sub-usize2 = search in
+    let a = s .args in
+    let x = less .wrapping-sub-usize2 in
+    either (less-off (x .result) _ (a .width) (x .ensures) (omega (arith, x .ok)) (omega (arith, c .if2 .taken, s .pre .2)))
+    (off-left (a .width) (a .height) (a .at .row) (a .at .col) (s .pre .1) (rowOf (a .code)) (columnOf (a .code)))
+    (off-right (a .width) (a .height) (a .at .row) (a .at .col) (s .pre .1) (rowOf (a .code)) (columnOf (a .code)))
 
-add-if3 : tie.Need-add-if3
-add-if3 c = search needs
+index-requires : tie.Need-index-requires
+index-requires c κs =
+    let s : tie.Start = search in
+    let low : tie.Else1 = search in
+    let inside : tie.Else2 = search in
+    (omega (arith, low .if1 .left, s .pre .3), inside .if2 .left, s .pre .2)
 
 returns-3 : tie.Need-returns-3
 returns-3 c =
-    let s = c .before .before .before .before .before in
-    off-bottom (s .args .width) (s .args .height) (s .args .at .row) _ (across s) (s .args .down) (s .args .right)
-    (c .if3 .taken)
-
-add-if4 : tie.Need-add-if4
-add-if4 c = search needs
-
-returns-4 : tie.Need-returns-4
-returns-4 c =
-    let s = c .before .before .before .before .before .before in
-    off-right (s .args .width) (s .args .height) (s .args .at .row) _ (across s) (s .args .down) (s .args .right)
-    (omega (arith, s .pre .2, c .if4 .taken))
-
-mul-result : tie.Need-mul-result
-mul-result c =
-    let s = c .before .before .before .before .before .before in
-    factors-fit 256 256 (omega (arith, s .pre .3, c .before .if3 .left)) (s .pre .2) tt
-
-add-result : tie.Need-add-result
-add-result c =
-    let s = c .before .before .before .before .before .before in
-    index-fits _ _ _ (omega (arith, s .pre .3, c .before .if3 .left)) (s .pre .2)
-    (omega (arith, s .pre .2, c .if4 .left))
-
-returns-5 : tie.Need-returns-5
-returns-5 c =
-    let a = c .before .before .before in
-    let s = a .before .before .before in
-    on (s .args .width) (s .args .height) (s .args .at .row) _ (across s) (s .args .down) (s .args .right)
-    (omega (arith, a .if1 .left))
-    (omega (arith, c .before .if3 .left)) (omega (arith, c .before .before .if2 .left)) (omega (arith, c .if4 .left))
+    let s : tie.Start = search in
+    let low : tie.Else1 = search in
+    let inside : tie.Else2 = search in
+    let less : tie.After-wrapping-sub-usize = search in
+    let less2 : tie.After-wrapping-sub-usize2 = search in
+    let a = s .args in
+    let y = less .wrapping-sub-usize in
+    let x = less2 .wrapping-sub-usize2 in
+    let row = less-on (y .result) (a .at .row + rowOf (a .code)) (y .ensures) (omega (arith, low .if1 .left, s .pre .3)) in
+    let col = less-on (x .result) (a .at .col + columnOf (a .code)) (x .ensures) (omega (arith, inside .if2 .left, s .pre .2)) in
+    let there : y .result ≡ a .at .row + rowOf (a .code) - 6 = omega (arith, row) in
+    let across : x .result ≡ a .at .col + columnOf (a .code) - 6 = omega (arith, col) in
+    c .index .ensures
+    ∙ ap₂ (cellAt (a .width)) there across
+    ∙ on (a .width) (a .height) (a .at .row) (a .at .col) (s .pre .1) (rowOf (a .code)) (columnOf (a .code))
+    (omega (arith, row)) (omega (arith, row, low .if1 .left)) (omega (arith, col)) (omega (arith, col, inside .if2 .left))
 
 pub partner-cell-spec : {M : Type 1} → statement M
 partner-cell-spec =
     tie.close
     (tie.spec
     mul-cells
-    add-y
-    add-x
+    cast-wrapping-sub-usize
+    add-wrapping-sub-usize
+    wrapping-sub-usize-requires
     returns
+    cast-wrapping-sub-usize-2
+    add-wrapping-sub-usize-2
+    wrapping-sub-usize-requires-2
     returns-2
-    add-if3
-    returns-3
-    add-if4
-    returns-4
-    mul-result
-    add-result
-    returns-5)
+    index-requires
+    returns-3)

@@ -1,19 +1,17 @@
 -- `search_prune::any_lower` meets its contract: every trial so far failed.
-use mathlib.Core.Bool.{true, false, true≢false, not, _&&_}
-use mathlib.Core.Path.{_≡_, sym, _∙_, ap}
-use Prim.Native.Nat.{ℕ, _+_, _-_, _≤_, _<_}
-use native.Mathlib.Nat.{not-suc-le-zero}
+use mathlib.Core.Bool.{true≢false}
+use mathlib.Core.Path.{_≡_, sym, _∙_}
+use Prim.Native.Nat.{_+_, _-_, _≤_}
 use native.Mathlib.Omega.{arith}
-use lib.Dec.{lit<, eqb}
-use lib.IntN.{ℤ, pos, _+ℤ_, _-ℤ_, _*ℤ_}
+use borrow.Author.Count.{below-none, below-more}
+use lib.IntN.{pos}
 use lib.ListN.{getD}
-use lib.Signed.{ltZ}
 use mir.Syntax.{w32}
-use mir.Val.{ofZ}
-use Rattle.algebra.proofs.Machine.{Holds, of-small, size-of}
-use Rattle.model.specs.Change.{sign}
+use mir.Val.{toZ, ofZ}
+use Rattle.algebra.proofs.Machine.{size-of}
+use Rattle.invariants.specs.Trials.{lowersBy}
+use Rattle.search_runs.proofs.Run.{worth-held}
 use Rattle.search_prune.specs.Grid.{RunClear}
-use Rattle.search_prune.proofs.Grid.{run-next}
 use Rattle.search_prune.proofs.any_lower.Statement.{statement}
 use Rattle.search_prune.proofs.any_lower.Tie as tie
 
@@ -24,7 +22,7 @@ abbrev μ-loop : tie.MeasureT-loop
 μ-loop dots table m from grid at n k₀ k = n - k
 
 loop-holds : tie.Need-loop-holds Inv-loop μ-loop
-loop-holds c = (record { each = λ k h. absurd (not-suc-le-zero h) }, omega arith)
+loop-holds c = (record { each = below-none _ }, omega arith)
 
 add-lower-swap : tie.Need-add-lower-swap Inv-loop μ-loop
 add-lower-swap c = omega arith
@@ -38,27 +36,11 @@ mul-lower-swap c = omega arith
 shared-slice-copy-out-lower-swap : tie.Need-shared-slice-copy-out-lower-swap Inv-loop μ-loop
 shared-slice-copy-out-lower-swap c = omega arith
 
--- what the offset is worth, as the local holds it
-module _ (i : tie.In-loop Inv-loop μ-loop) where
-  abbrev s : tie.Start Inv-loop μ-loop
-  s = i .before .before .before
-
-  abbrev k : ℕ
-  k = i .before .loop .k
-
-  abbrev entry : ℤ
-  entry = getD (s .args .grid .now) (s .args .at + k) (pos 0)
-
-  worth : Holds w32 (ofZ w32 entry) entry 534773760
-  worth = of-small w32 entry (s .pre .1 .1 .1 k (i .loop-test .taken)) (lit< tt)
-
 lower-swap-requires : tie.Need-lower-swap-requires Inv-loop μ-loop
 lower-swap-requires c κs =
-    let i = c .before in
-    let a = s i in (
-      (a .pre .0 .0, omega (arith, a .pre .0, a .pre .1 .0, i .loop-test .taken), a .pre .0 .1),
-      (a .pre .1 .1 .0, size-of (worth i)),
-    )
+    let s : tie.Start Inv-loop μ-loop = search in
+    let l : tie.At-loop Inv-loop μ-loop = search in
+    ((omega arith, omega arith, s .pre .tabled .long), (s .pre .tabled .small, size-of (worth-held (s .pre .small) (s .args .at + l .loop .k))))
 
 returns : tie.Need-returns Inv-loop μ-loop
 returns c e = absurd (true≢false e)
@@ -71,22 +53,26 @@ loop-less c = omega arith
 
 loop-again : tie.Need-loop-again Inv-loop μ-loop
 loop-again c =
-    let i = c .before .before .before in
-    let a = s i in (
-      run-next _ _ _ _ (i .before .loop .inv .0)
-          (ap (λ z. not (eqb (getD (a .args .dots .now) (a .args .m) 0) (getD (a .args .dots .now) (a .args .from + k i) 0))
-          && ltZ (sign (a .args .dots .now) (a .args .m)
-          *ℤ (getD (a .args .table .now) (a .args .m) (pos 0)
-          -ℤ getD (a .args .table .now) (a .args .from + k i) (pos 0)) +ℤ z) (pos 0)) (sym (worth i .value))
-          ∙ sym (c .before .lower-swap .ensures) ∙ c .if1 .left),
+    let s : tie.Start Inv-loop μ-loop = search in
+    let l : tie.At-loop Inv-loop μ-loop = search in
+    let t : tie.After-lower-swap Inv-loop μ-loop = search in
+    let a = s .args in
+    let z = toZ w32 (ofZ w32 (getD (a .grid .now) (a .at + l .loop .k) (pos 0))) in
+    let told : t .lower-swap .result ≡ lowersBy (a .dots .now) (a .table .now) (a .m) (a .from + l .loop .k) z =
+    t .lower-swap .ensures in (
+      record {
+        each =
+            below-more _ _ (l .loop .inv .0 .each) (rw (worth-held (s .pre .small) (s .args .at + l .loop .k) .value) at (sym told ∙ c .if1 .left));
+      },
       omega arith,
     )
 
 returns-2 : tie.Need-returns-2 Inv-loop μ-loop
 returns-2 c e =
-    let s = c .before .before .before in
-    let done : c .before .loop .k ≡ s .args .n = omega arith in
-    rw done at (c .before .loop .inv .0)
+    let s : tie.Start Inv-loop μ-loop = search in
+    let l : tie.At-loop Inv-loop μ-loop = search in
+    let done : l .loop .k ≡ s .args .n = omega arith in
+    rw done at (l .loop .inv .0)
 
 pub any-lower-spec : {M : Type 1} → statement M
 any-lower-spec =

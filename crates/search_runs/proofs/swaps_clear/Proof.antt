@@ -1,33 +1,40 @@
--- `search_prune::swaps_clear` meets its contract: at the offsets so far every trial of the run fails.
-use mathlib.Core.Bool.{true, false, true≢false}
-use mathlib.Core.Path.{_≡_, sym}
+-- `search_runs::swaps_clear` meets its contract: at the offsets so far every trial of the run fails.
+use mathlib.Core.Bool.{true≢false}
+use mathlib.Core.Path.{_≡_, sym, subst}
 use Prim.Native.Nat.{ℕ, _+_, _*_, _-_, _≤_, _<_}
-use native.Mathlib.Nat.{mul-le-mul, not-suc-le-zero}
+use native.Mathlib.Nat.{mul-le-mul}
+use native.Mathlib.Decide.{decLt}
 use native.Mathlib.Omega.{arith}
-use lib.Dec.{lit<}
 use lib.IntN.{pos}
-use lib.ListN.{getD}
-use mir.Syntax.{w32}
-use mir.Val.{ofZ}
-use Rattle.algebra.proofs.Machine.{of-small, size-of, factors-fit, Holds}
-use Rattle.search_runs.specs.Run.{CellsClear}
-use Rattle.search_runs.proofs.Run.{cells-next}
-use Rattle.filter_window.proofs.Rows.{index-fits}
+use lib.ListN.{length, getD}
+use Rattle.algebra.proofs.Machine.{size-of, factors-fit}
+use Rattle.invariants.specs.Partners.{rowOf, columnOf}
+use Rattle.model.specs.Error.{cellAt}
+use Rattle.search_runs.proofs.Run.{worth-held, Clear, offset-clear}
 use Rattle.search_runs.proofs.swaps_clear.Statement.{statement}
 use Rattle.search_runs.proofs.swaps_clear.Tie as tie
 
 abbrev Inv-loop : tie.InvT-loop
-Inv-loop width downs rights worths count dots table n row col m back j₀ j =
-    CellsClear width dots table downs rights worths j row col n × (j ≤ count)
+Inv-loop width codes worths dots table n m back j₀ j =
+    ((i : ℕ) → j ≤ i → i < length codes → Clear width m dots table (getD codes i 0) (getD worths i (pos 0)) n)
+    × (j ≤ length codes)
 
 abbrev μ-loop : tie.MeasureT-loop
-μ-loop width downs rights worths count dots table n row col m back j₀ j = count - j
+μ-loop width codes worths dots table n m back j₀ j = j
 
-mul-m : tie.Need-mul-m Inv-loop μ-loop
-mul-m c = factors-fit 256 256 (omega arith) (omega arith) tt
+less-not : {i n : ℕ} → n ≤ i → i < n → ⊥
+less-not h g = omega arith
 
-add-m : tie.Need-add-m Inv-loop μ-loop
-add-m c = index-fits _ _ _ (omega arith) (omega arith) (omega arith)
+-- what holds from j on, and at the one before
+one-more : (P : ℕ → Type 0) (j n : ℕ) → ((i : ℕ) → j ≤ i → i < n → P i) → P (j - 1) → (i : ℕ) → j - 1 ≤ i → i < n → P i
+one-more P j n all here i h g = go (decLt i j)
+  where
+    go : Dec (i < j) → P i
+    go (yes k) = subst P (omega arith) here
+    go (no k) = all i (omega arith) g
+
+index-requires : tie.Need-index-requires Inv-loop μ-loop
+index-requires c κs = (omega arith, omega arith, omega arith)
 
 mul-back : tie.Need-mul-back Inv-loop μ-loop
 mul-back c = omega arith
@@ -36,62 +43,66 @@ add-back : tie.Need-add-back Inv-loop μ-loop
 add-back c = omega arith
 
 loop-holds : tie.Need-loop-holds Inv-loop μ-loop
-loop-holds c = (record { each = λ j k h. absurd (not-suc-le-zero h) }, omega arith)
+loop-holds c = (λ i h g. absurd (less-not (omega arith) g), omega arith)
 
-shared-slice-read-place : tie.Need-shared-slice-read-place Inv-loop μ-loop
-shared-slice-read-place c = omega arith
+sub-j : tie.Need-sub-j Inv-loop μ-loop
+sub-j c = omega arith
+
+shared-slice-read-code : tie.Need-shared-slice-read-code Inv-loop μ-loop
+shared-slice-read-code c = omega arith
 
 cast-place : tie.Need-cast-place Inv-loop μ-loop
-cast-place c = record { fits = omega (arith, c .shared-slice-known4 .given (c .before .before .loop .j)) }
-
-add-place : tie.Need-add-place Inv-loop μ-loop
-add-place c = omega (arith, c .shared-slice-known4 .given (c .before .before .loop .j))
-
--- an offset's coordinates are bytes
-low : (c : tie.After-shared-slice-known4 Inv-loop μ-loop)
-    → getD (c .before .before .before .before .before .before .args .downs .now) (c .before .before .loop .j) 0 < 256
-low c = omega (arith, c .shared-slice-known4 .given (c .before .before .loop .j))
+cast-place c =
+    let l : tie.At-loop Inv-loop μ-loop = search in
+    record { fits = omega (arith, c .shared-slice-known3 .given (l .loop .j - 1)) }
 
 mul-place : tie.Need-mul-place Inv-loop μ-loop
-mul-place c = factors-fit 511 256 (omega (arith, low c)) (omega arith) tt
-
-shared-slice-read-place-2 : tie.Need-shared-slice-read-place-2 Inv-loop μ-loop
-shared-slice-read-place-2 c = omega arith
-
-cast-place-2 : tie.Need-cast-place-2 Inv-loop μ-loop
-cast-place-2 c = record { fits = omega (arith, c .shared-slice-known5 .given (c .before .before .before .loop .j)) }
-
-add-place-2 : tie.Need-add-place-2 Inv-loop μ-loop
-add-place-2 c = omega (arith, c .shared-slice-known5 .given (c .before .before .before .loop .j))
+mul-place c =
+    let l : tie.At-loop Inv-loop μ-loop = search in
+    factors-fit 15 256 (omega (arith, c .shared-slice-known3 .given (l .loop .j - 1))) (omega arith) tt
 
 -- the place of the first partner, 6 rows and 6 columns further on, is small
-module _ (c : tie.After-shared-slice-known5 Inv-loop μ-loop) where
-  abbrev l : tie.At-loop Inv-loop μ-loop
-  l = c .before .before .before
+place-small : (s : tie.Start Inv-loop μ-loop) (m j : ℕ) → let code = getD (s .args .codes .now) j 0 in
+    m ≡ cellAt (s .args .width) (s .args .at .row) (s .args .at .col) → code < 256
+    → m + rowOf code * s .args .width + columnOf code ≤ 271 * 256 + 271
+place-small s m j e byte =
+    let code = getD (s .args .codes .now) j 0 in
+    let row : s .args .at .row ≤ 255 = omega (arith, s .pre .0) in
+    let down : rowOf code ≤ 15 = omega arith in
+    omega (arith, mul-le-mul row (s .pre .0 .2), mul-le-mul down (s .pre .0 .2), s .pre .0)
 
-  abbrev s : tie.Start Inv-loop μ-loop
-  s = l .before .before .before .before
+add-place : tie.Need-add-place Inv-loop μ-loop
+add-place c =
+    let s : tie.Start Inv-loop μ-loop = search in
+    let l : tie.At-loop Inv-loop μ-loop = search in
+    let p : tie.After-index Inv-loop μ-loop = search in
+    let byte = c .shared-slice-known3 .given (l .loop .j - 1) in
+    record { fits = omega (arith, place-small s _ (l .loop .j - 1) (p .index .ensures) (omega arith)) }
 
-  abbrev y : ℕ
-  y = s .args .cell .row + getD (s .args .downs .now) (l .loop .j) 0
+cast-place-2 : tie.Need-cast-place-2 Inv-loop μ-loop
+cast-place-2 c =
+    let l : tie.At-loop Inv-loop μ-loop = search in
+    record { fits = omega (arith, c .shared-slice-known3 .given (l .loop .j - 1)) }
 
-  abbrev x : ℕ
-  x = s .args .cell .col + getD (s .args .rights .now) (l .loop .j) 0
-
-  place-small : y * s .args .width + x ≤ 511 * 256 + 511
-  place-small =
-      let down : y ≤ 511 = omega (arith, low (c .before), s .pre .0 .0) in
-      let right : x ≤ 511 = omega (arith, c .shared-slice-known5 .given (l .loop .j), s .pre .0 .1) in
-      omega (arith, mul-le-mul down (s .pre .0 .2), right)
-
-add-place-3 : tie.Need-add-place-3 Inv-loop μ-loop
-add-place-3 c = record { fits = omega (arith, place-small c) }
+add-place-2 : tie.Need-add-place-2 Inv-loop μ-loop
+add-place-2 c =
+    let s : tie.Start Inv-loop μ-loop = search in
+    let l : tie.At-loop Inv-loop μ-loop = search in
+    let p : tie.After-index Inv-loop μ-loop = search in
+    let byte = c .shared-slice-known3 .given (l .loop .j - 1) in
+    record { fits = omega (arith, place-small s _ (l .loop .j - 1) (p .index .ensures) (omega arith)) }
 
 returns : tie.Need-returns Inv-loop μ-loop
 returns c e = absurd (true≢false (sym e))
 
 add-if2 : tie.Need-add-if2 Inv-loop μ-loop
-add-if2 c = record { fits = omega (arith, place-small (c .before), s (c .before) .pre .0 .3) }
+add-if2 c =
+    let s : tie.Start Inv-loop μ-loop = search in
+    let l : tie.At-loop Inv-loop μ-loop = search in
+    let p : tie.After-index Inv-loop μ-loop = search in
+    let b : tie.After-shared-slice-known3 Inv-loop μ-loop = search in
+    let byte = b .shared-slice-known3 .given (l .loop .j - 1) in
+    record { fits = omega (arith, place-small s _ (l .loop .j - 1) (p .index .ensures) (omega arith)) }
 
 returns-2 : tie.Need-returns-2 Inv-loop μ-loop
 returns-2 c e = absurd (true≢false (sym e))
@@ -102,47 +113,45 @@ mul-any-swaps c = omega arith
 shared-slice-copy-out-any-swaps : tie.Need-shared-slice-copy-out-any-swaps Inv-loop μ-loop
 shared-slice-copy-out-any-swaps c = omega arith
 
--- what the offset is worth, as the local holds it
-worth : (c : tie.After-shared-slice-known5 Inv-loop μ-loop)
-    → Holds w32 (ofZ w32 (getD (s c .args .worths .now) (l c .loop .j) (pos 0)))
-    (getD (s c .args .worths .now) (l c .loop .j) (pos 0)) 534773760
-worth c = of-small w32 _ (s c .pre .1 .1 .1 .1 (l c .loop .j) (c .before .before .loop-test .taken)) (lit< tt)
-
 any-swaps-requires : tie.Need-any-swaps-requires Inv-loop μ-loop
 any-swaps-requires c κs =
-    let e = c .before in
-    let k = e .before .before in
-    let a = s k in (
-      (omega (arith, a .pre .1 .0), omega (arith, e .if2 .left)),
-      (
-        a .pre .1 .1 .0,
-        (size-of (worth k), omega (arith, a .pre .0 .3)),
-      ),
+    let s : tie.Start Inv-loop μ-loop = search in
+    let l : tie.At-loop Inv-loop μ-loop = search in
+    let p : tie.After-index Inv-loop μ-loop = search in (
+      (s .pre .1 .0 .0, size-of (worth-held (s .pre .1 .1 .1) (l .loop .j - 1)), omega arith),
+      (omega (arith, p .index .ensures), omega arith),
     )
 
 returns-3 : tie.Need-returns-3 Inv-loop μ-loop
 returns-3 c e = absurd (true≢false (sym e))
-
-add-j : tie.Need-add-j Inv-loop μ-loop
-add-j c = omega arith
 
 loop-less : tie.Need-loop-less Inv-loop μ-loop
 loop-less c = omega arith
 
 loop-again : tie.Need-loop-again Inv-loop μ-loop
 loop-again c =
-    let k = c .before .before .before .before .before in
-    let a = s k in (
-      cells-next _ _ _ _ _ _ (l k .loop .j) _ _ _ _ (omega (arith, c .before .before .before .before .if1 .left))
-          (l k .loop .inv .0) (rw (worth k .value) at (c .before .any-swaps .ensures (c .if3 .left))),
+    let s : tie.Start Inv-loop μ-loop = search in
+    let l : tie.At-loop Inv-loop μ-loop = search in
+    let t : tie.After-any-swaps Inv-loop μ-loop = search in (
+      one-more _ (l .loop .j) _ (l .loop .inv .0)
+          (record {
+            to = _;
+            place = omega arith;
+            clear = rw (worth-held (s .pre .1 .1 .1) (l .loop .j - 1) .value) at (t .any-swaps .ensures (c .if3 .left));
+          }),
       omega arith,
     )
 
 returns-4 : tie.Need-returns-4 Inv-loop μ-loop
 returns-4 c e =
-    let a = c .before .before .before .before .before in
-    let done : c .before .loop .j ≡ a .args .count = omega arith in
-    rw done at (c .before .loop .inv .0)
+    let s : tie.Start Inv-loop μ-loop = search in
+    let l : tie.At-loop Inv-loop μ-loop = search in
+    let p : tie.After-index Inv-loop μ-loop = search in
+    record {
+      at = λ j h.
+          offset-clear (s .args .width) _ (s .args .at .row) (s .args .at .col)
+          (rw (p .index .ensures) at (l .loop .inv .0 j (omega arith) h));
+    }
 
 pub swaps-clear-spec : {M : Type 1} → statement M
 swaps-clear-spec =
@@ -150,19 +159,17 @@ swaps-clear-spec =
     (tie.spec
     Inv-loop
     μ-loop
-    mul-m
-    add-m
+    index-requires
     mul-back
     add-back
     loop-holds
-    shared-slice-read-place
+    sub-j
+    shared-slice-read-code
     cast-place
-    add-place
     mul-place
-    shared-slice-read-place-2
+    add-place
     cast-place-2
     add-place-2
-    add-place-3
     returns
     add-if2
     returns-2
@@ -170,7 +177,6 @@ swaps-clear-spec =
     shared-slice-copy-out-any-swaps
     any-swaps-requires
     returns-3
-    add-j
     loop-less
     loop-again
     returns-4)

@@ -1,148 +1,145 @@
 -- `search_swaps::swap_cell` meets its contract: the partner found stands on the plate, its dot unlike, and the swap with
 -- it is the one that a scan accepts there.
-use mathlib.Core.Bool.{true, and-eq-true-iff}
-use mathlib.Core.Path.{_≡_, sym, _∙_, subst}
-use Prim.Native.Nat.{ℕ, _+_, _-_, _^_, _≤_, _<_}
+use mathlib.Core.Bool.{true, false, true≢false, and-eq-true-iff}
+use mathlib.Core.Path.{_≡_, sym, _∙_, ap, subst}
+use Prim.Native.Nat.{ℕ, _+_, _-_, _≤_, _<_}
 use native.Mathlib.Omega.{arith}
 use borrow.Author.Needs.{needs}
-use lib.IntN.{ℤ, natAbs}
-use lib.ListN.{getD}
-use mir.Syntax.{w64}
-use Rattle.algebra.proofs.Machine.{read-back}
-use Rattle.model.specs.Error.{Target, targetFor, cellAt}
-use Rattle.model.specs.Partners.{HoldsOffsets, biased, lands}
-use Rattle.model.specs.Scan.{suits, sweepOf}
-use Rattle.model.specs.State.{LaterFits}
-use Rattle.search_swaps.specs.Trials.{takes}
-use Rattle.search_swaps.proofs.Trials.{swap-taken}
-use Rattle.search_swaps.proofs.Partner.{landed, stands, suits-lands, suits-unlike}
-use Rattle.model.proofs.Loop.{left-none}
-use Rattle.search_toggles.proofs.Visit.{visit-none, visit-one}
+use lib.ListN.{length, getD}
+use Rattle.model.specs.declared.Cell.{Cell}
+use Rattle.model.specs.Change.{swap, lowers}
+use Rattle.model.specs.Error.{Target, targetFor}
+use Rattle.model.specs.Partners.{lands, partner}
+use Rattle.model.specs.Scan.{suits}
+use Rattle.model.proofs.Attempts.{entry-stats}
+use Rattle.invariants.specs.Partners.{rowOf, columnOf, offsetOf, HoldsOffsets}
+use Rattle.invariants.specs.Plate.{OnPlate, cellOf, Unlike, swapAt}
+use Rattle.invariants.specs.Trials.{sweepOf, visit, lowersAt}
+use Rattle.invariants.proofs.Loop.{left-none}
+use Rattle.invariants.proofs.Plate.{ready-judged}
+use Rattle.invariants.proofs.Scanning.{visit-none, attempt-advances}
+use Rattle.invariants.proofs.Trials.{swap-taken}
+use Rattle.search_swaps.proofs.Partner.{landed, stands, partner-on, suits-lands, suits-unlike}
 use Rattle.search_swaps.proofs.swap_cell.Statement.{statement}
 use Rattle.search_swaps.proofs.swap_cell.Tie as tie
 
 -- what is known from the start
 module _ (s : tie.Start) where
-  abbrev fits : LaterFits (s .args .measures) (s .args .psf .now) (s .args .gray .now) (s .args .dots .now)
-      (s .args .table .now) (s .args .progress .stats)
-  fits = s .pre .0
+  abbrev on : OnPlate (s .args .measures) (s .args .at)
+  on = s .pre .1 .0 .0
 
-  abbrev held : HoldsOffsets (s .args .measures .reach) (s .args .downs .now) (s .args .rights .now) (s .args .count)
-  held = s .pre .1 .1 .0
+  abbrev held : HoldsOffsets (s .args .measures .reach) (s .args .codes .now)
+  held = s .pre .1 .0 .2
 
   abbrev target : Target
   target = targetFor (s .args .measures) (s .args .psf .now) (s .args .gray .now)
 
-  -- the cell
-  abbrev w : ℕ
-  w = s .args .measures .width
-
-  abbrev h : ℕ
-  h = s .args .measures .height
-
-  abbrev row : ℕ
-  row = s .args .at .row
-
-  abbrev col : ℕ
-  col = s .args .at .col
-
-  abbrev here : (row < h) × (col < w) × (s .args .progress .changes < 2 ^ 63)
-  here = s .pre .1 .1 .1 .0
+  abbrev m : ℕ
+  m = cellOf (s .args .measures .width) (s .args .at)
 
   -- the offset found
-  abbrev down : ℕ
-  down = getD (s .args .downs .now) (s .args .found) 0
-
-  abbrev right : ℕ
-  right = getD (s .args .rights .now) (s .args .found) 0
+  abbrev code : ℕ
+  code = getD (s .args .codes .now) (s .args .found) 0
 
 returns : tie.Need-returns
 returns c =
-    let s = c .before .before .before .before .before .before in
-    visit-none _ _ _ _ (s .args .progress) (fits s)
+    let s : tie.Start = search in
+    visit-none (s .pre .0 .later)
     (left-none (target s) (s .args .measures .reach) (sweepOf (s .args .dots .now) (s .args .progress)) _
     (s .args .found)
-    (subst (λ n. n ≤ s .args .found) (held s .count-is) (c .if1 .taken)))
+    (subst (λ n. n ≤ s .args .found) (held s .long) (c .if1 .taken)))
 
 -- a partner was found: where it stands, and that its dot is unlike
 module _ (a : tie.Else1) where
-  abbrev s : tie.Start
-  s = a .before .before .before .before .before .before
+  abbrev start : tie.Start
+  start = search
 
-  near : (down s ≤ 12) × (right s ≤ 12)
-  near = held s .near (s .args .found) (a .if1 .left)
+  abbrev row : ℕ
+  row = start .args .at .row
 
-  took : takes (target s) (s .args .dots .now) (cellAt (w s) (row s) (col s)) (biased (down s) (right s)) ≡ true
-  took = s .pre .1 .1 .1 .1 .1 (a .if1 .left)
+  abbrev col : ℕ
+  col = start .args .at .col
 
-  suited : suits (target s) (s .args .dots .now) (cellAt (w s) (row s) (col s)) (biased (down s) (right s)) ≡ true
-  suited = and-eq-true-iff _ _ .0 took .0
+  short : start .args .found < length (start .args .codes .now)
+  short = a .if1 .left
 
-  on : lands (w s) (h s) (cellAt (w s) (row s) (col s)) (biased (down s) (right s)) ≡ true
-  on = suits-lands (target s) (row s) (col s) (here s .1) (down s) (right s) (s .args .dots .now) suited
+  near : (rowOf (code start) ≤ 12) × (columnOf (code start) ≤ 12)
+  near = held start .near (start .args .found) short
 
-  abbrev row2 : ℕ
-  row2 = row s + down s - 6
+  took : lowersAt (target start) (start .args .dots .now) (m start) (offsetOf (code start)) ≡ true
+  took = start .pre .1 .1 short
 
-  abbrev col2 : ℕ
-  col2 = col s + right s - 6
+  lowersAt-is : (suits (target start) (start .args .dots .now) (m start) (offsetOf (code start)) ≡ true)
+      × (lowers (target start) (start .args .dots .now)
+      (swap (start .args .dots .now) (m start) (partner (start .args .measures .width) (m start) (offsetOf (code start))))
+      ≡ true)
+  lowersAt-is = and-eq-true-iff _ _ .0 took
 
-  there : ((6 ≤ row s + down s) × (6 ≤ col s + right s)) × ((row2 < h s) × (col2 < w s))
-  there = landed (w s) (h s) (row s) (col s) (here s .1) (down s) (right s) on
+  suited : suits (target start) (start .args .dots .now) (m start) (offsetOf (code start)) ≡ true
+  suited = lowersAt-is .0
 
-  unlike : getD (s .args .dots .now) (cellAt (w s) (row s) (col s)) 0
-      ≡ getD (s .args .dots .now) (cellAt (w s) row2 col2) 0
-      → ⊥
-  unlike = suits-unlike (target s) (row s) (col s) (here s .1) (down s) (right s) (s .args .dots .now) suited
+  lands-there : lands (start .args .measures .width) (start .args .measures .height) (m start) (offsetOf (code start)) ≡ true
+  lands-there =
+      suits-lands (target start) row col (on start .col-below) (rowOf (code start)) (columnOf (code start))
+      (start .args .dots .now) suited
 
-shared-slice-read-row2 : tie.Need-shared-slice-read-row2
-shared-slice-read-row2 c = search needs
+  abbrev to : Cell
+  to = record { row = row + rowOf (code start) - 6; col = col + columnOf (code start) - 6 }
 
-cast-row2 : tie.Need-cast-row2
-cast-row2 c = record { fits = omega (arith, near (c .before)) }
+  there : OnPlate (start .args .measures) to
+  there =
+      partner-on (ready-judged (start .pre .0)) (on start) (rowOf (code start)) (columnOf (code start)) lands-there
 
-add-row2 : tie.Need-add-row2
-add-row2 c =
-    let a = c .before .before in
-    record { fits = omega (arith, near a, here (s a), fits (s a) .plate .halftone .high) }
+  inside : (6 ≤ row + rowOf (code start)) × (6 ≤ col + columnOf (code start))
+  inside = landed _ _ row col (on start .col-below) (rowOf (code start)) (columnOf (code start)) lands-there .0
 
-sub-row2 : tie.Need-sub-row2
-sub-row2 c = there (c .before .before) .0 .0
+  -- the swap with it lowers E
+  lower : lowers (target start) (start .args .dots .now) (swapAt (start .args .measures) (start .args .dots .now)
+      (start .args .at) to) ≡ true
+  lower =
+      ap (λ k. lowers (target start) (start .args .dots .now) (swap (start .args .dots .now) (m start) k))
+      (sym (stands _ (start .args .measures .height) row col (on start .col-below) (rowOf (code start))
+      (columnOf (code start)) lands-there))
+      ∙ lowersAt-is .1
 
-shared-slice-read-col2 : tie.Need-shared-slice-read-col2
-shared-slice-read-col2 c = search needs
+  unlike : Unlike (start .args .measures) (start .args .dots .now) (start .args .at) to
+  unlike =
+      suits-unlike (target start) row col (on start .col-below) (rowOf (code start)) (columnOf (code start))
+      (start .args .dots .now) suited
 
-cast-col2 : tie.Need-cast-col2
-cast-col2 c = record { fits = omega (arith, near (c .before .before .before)) }
+shared-slice-read-code : tie.Need-shared-slice-read-code
+shared-slice-read-code c = let a : tie.Else1 = search in short a
 
-add-col2 : tie.Need-add-col2
-add-col2 c =
-    let a = c .before .before .before .before in
-    record { fits = omega (arith, near a, here (s a), fits (s a) .plate .halftone .wide) }
+cast-t14 : tie.Need-cast-t14
+cast-t14 c = let a : tie.Else1 = search in record { fits = omega (arith, near a) }
 
-sub-col2 : tie.Need-sub-col2
-sub-col2 c = there (c .before .before .before .before) .0 .1
+add-t18 : tie.Need-add-t18
+add-t18 c =
+    let a : tie.Else1 = search in
+    let f = start a .pre .0 .later .plate .halftone in
+    record { fits = omega (arith, near a, on (start a) .row-below, f .high) }
 
-weigh-swap-requires : tie.Need-weigh-swap-requires
-weigh-swap-requires c κs =
-    let a = c .before .before .before .before .before .before in
-    let (kernel, (_, (at, _))) = s a .pre .1 in
-    (fits (s a) .plate .halftone, (fits (s a) .state .table-is, (kernel, ((at .0, at .1), (there a .1, unlike a)))))
+sub-t19 : tie.Need-sub-t19
+sub-t19 c = let a : tie.Else1 = search in inside a .0
 
-make-swap-requires : tie.Need-make-swap-requires
-make-swap-requires c κs =
-    let v = c .before .before in
-    let a = v .before .before .before .before .before .before .before in
-    let (kernel, (_, (at, _))) = s a .pre .1 in
-    let back = read-back w64 (v .weigh-swap .result) (v .weigh-swap .ok) in
-    let small = subst (λ (z : ℤ). natAbs z ≤ 2 ^ 50) (sym back) (v .weigh-swap .ensures .1) in
-    (fits (s a), (kernel, ((at .0, at .1), (there a .1, (unlike a, (back ∙ v .weigh-swap .ensures .0, small))))))
+cast-t21 : tie.Need-cast-t21
+cast-t21 c = let a : tie.Else1 = search in record { fits = omega (arith, near a) }
 
-add-t31 : tie.Need-add-t31
-add-t31 c =
-    let v = c .before .before .before .before in
-    let a = v .before .before .before .before .before .before .before .before .before .before in
-    record { fits = omega (arith, here (s a)) }
+add-t22 : tie.Need-add-t22
+add-t22 c =
+    let a : tie.Else1 = search in
+    let f = start a .pre .0 .later .plate .halftone in
+    record { fits = omega (arith, near a, on (start a) .col-below, f .wide) }
+
+sub-t23 : tie.Need-sub-t23
+sub-t23 c = let a : tie.Else1 = search in inside a .1
+
+swap-requires : tie.Need-swap-requires
+swap-requires c κs =
+    let a : tie.Else1 = search in (start a .pre .0, (on (start a), there a, unlike a))
+
+advance-requires : tie.Need-advance-requires
+advance-requires c κs = let s : tie.Start = search in s .pre .1 .0 .1
 
 same-length : tie.Need-same-length
 same-length c = search needs
@@ -152,32 +149,32 @@ same-length-2 c = search needs
 
 returns-2 : tie.Need-returns-2
 returns-2 c =
-    let v = c .before .before .before .before in
-    let a = v .before .before .before .before .before .before .before .before .before .before in
-    let k = s a in
-    let stood = stands (w k) (h k) (row k) (col k) (here k .1) (down k) (right k) (on a) in
-    visit-one (k .args .measures) _ _ _ (k .args .progress) _
-    (swap-taken (target k) (k .args .measures .reach) _ (k .args .progress) _ (k .args .found)
-    (subst (λ n. k .args .found < n) (held k .count-is) (a .if1 .left)) (held k .at (k .args .found) (a .if1 .left))
-    (took a) stood)
-    (v .make-swap .ensures .0) (v .make-swap .ensures .1 .0) (v .make-swap .ensures .1 .1)
+    let a : tie.Else1 = search in
+    let tried : tie.After-swap = search in
+    let g = start a .args in
+    let found = g .found in
+    let taken =
+    swap-taken (target (start a)) (g .measures .reach) (g .dots .now) (g .progress) (m (start a)) found
+    (subst (λ n. found < n) (held (start a) .long) (short a)) (held (start a) .at found (short a)) (took a)
+    (stands _ _ _ _ (on (start a) .col-below) (rowOf (code (start a))) (columnOf (code (start a))) (lands-there a)) in
+    attempt-advances (target (start a)) (g .dots .now) (g .progress) (swapAt (g .measures) (g .dots .now) (g .at) (to a))
+    _ _ (entry-stats _ _ _ _ _ _ (start a .pre .0 .later)) (λ e. taken) (λ e. absurd (true≢false (sym (lower a) ∙ e))) _
+    (c .advance .ensures) (tried .swap .ensures)
 
 pub swap-cell-spec : {M : Type 1} → statement M
 swap-cell-spec =
     tie.close
     (tie.spec
     returns
-    shared-slice-read-row2
-    cast-row2
-    add-row2
-    sub-row2
-    shared-slice-read-col2
-    cast-col2
-    add-col2
-    sub-col2
-    weigh-swap-requires
-    make-swap-requires
-    add-t31
+    shared-slice-read-code
+    cast-t14
+    add-t18
+    sub-t19
+    cast-t21
+    add-t22
+    sub-t23
+    swap-requires
+    advance-requires
     same-length
     same-length-2
     returns-2)

@@ -1,165 +1,126 @@
--- `search_toggles::toggle_all` meets its contract: cell by cell, in raster order, it is the reference's toggle scan; where a run
--- of cells is passed over, the reference accepts nothing.
-use mathlib.Core.Path.{sym, _∙_}
-use Prim.Native.Nat.{ℕ, _+_, _*_, _-_, _≤_, _<_}
+-- `search_toggles::toggle_all` meets its contract: cell by cell, in raster order, it is the reference's toggle scan; where a
+-- run of cells is passed over, the reference accepts nothing.
+use mathlib.Core.Path.{refl, sym, _∙_}
+use Prim.Native.Nat.{_*_, _-_, _<_}
 use native.Mathlib.Omega.{arith}
-use Rattle.algebra.proofs.Grid.{cell<, rows-apart}
-use Rattle.model.specs.Error.{Target, targetFor, cellAt}
-use Rattle.model.specs.Reference.{Reference, reference}
-use Rattle.model.specs.State.{LaterFits}
+use Rattle.algebra.proofs.Grid.{cell<}
+use Rattle.model.specs.Error.{Target, targetFor}
+use Rattle.model.specs.Reference.{reference}
 use Rattle.model.specs.Scan.{toggles}
 use Rattle.model.proofs.Attempts.{Sound, entry-sound}
-use Rattle.model.proofs.Scan.{toggles-lawful}
-use Rattle.search_toggles.proofs.Under.{Under, under-start, under-at, under-fits, under-few, under-next, under-end}
-use Rattle.search_toggles.proofs.Under.{under-skip}
-use Rattle.search_toggles.proofs.Visit.{toggle-declined}
-use Rattle.search_toggles.proofs.Under.{cells-done}
+use Rattle.model.proofs.Scan.{Lawful, toggles-lawful}
+use Rattle.invariants.specs.Plate.{Ready, OnPlate, cellOf}
+use Rattle.invariants.proofs.Plate.{ready-judged, place-fits}
+use Rattle.invariants.proofs.Scanning.{Scanning, scanning-start, scanning-fits, scanning-few, scanning-here}
+use Rattle.invariants.proofs.Scanning.{scanning-next, scanning-ahead, scanning-end, toggle-declined}
 use Rattle.search_toggles.proofs.toggle_all.Statement.{statement}
 use Rattle.search_toggles.proofs.toggle_all.Tie as tie
 
 -- the cells before this one are done
 abbrev Inv-loop : tie.InvT-loop
 Inv-loop measures psf gray c dots₀ table₀ progress₀ cell₀ tested₀ dots table progress cell tested =
-    let n = cellAt (measures .width) (cell .row) (cell .col) in
-    Under measures psf gray (toggles (targetFor measures psf gray)) (reference dots₀ (progress₀ .stats)) n dots table
-    progress
-    × (cell .col < measures .width)
-    × (n ≤ measures .height * measures .width)
+    Scanning measures psf gray (toggles (targetFor measures psf gray)) (reference dots₀ (progress₀ .stats)) cell dots
+    table progress
 
 abbrev μ-loop : tie.MeasureT-loop
 μ-loop measures psf gray c dots₀ table₀ progress₀ cell₀ tested₀ dots table progress cell tested =
-    measures .height * measures .width - cellAt (measures .width) (cell .row) (cell .col)
+    measures .height * measures .width - cellOf (measures .width) cell
 
 loop-holds : tie.Need-loop-holds Inv-loop μ-loop
-loop-holds c =
-    let s = c .before .before .before in (
-      under-at (under-start _ _ _ _ _ _ (toggles _) (s .pre .0)) (omega arith),
-      s .pre .0 .plate .halftone .wide .0,
-      omega arith,
-    )
+loop-holds c = let s : tie.Start Inv-loop μ-loop = search in scanning-start _ _ _ (toggles _) (s .pre .later)
 
 -- what is known at each cell
 module _ (l : tie.At-loop Inv-loop μ-loop) where
   abbrev s : tie.Start Inv-loop μ-loop
-  s = l .before .before .before .before
+  s = search
 
   abbrev target : Target
   target = targetFor (s .args .measures) (s .args .psf .now) (s .args .gray .now)
 
-  abbrev p : Reference
-  p = reference (s .args .dots .now) (s .args .stats)
+  lawful : Lawful target (toggles target)
+  lawful = toggles-lawful target refl
 
-  sound : Sound (s .args .measures) (s .args .psf .now) (s .args .gray .now) p
-  sound = entry-sound _ _ _ _ _ _ (s .pre .0)
+  sound : Sound (s .args .measures) (s .args .psf .now) (s .args .gray .now)
+      (reference (s .args .dots .now) (s .args .stats))
+  sound = entry-sound _ _ _ _ _ _ (s .pre .later)
 
-  fits : LaterFits (s .args .measures) (s .args .psf .now) (s .args .gray .now) (l .loop .dots) (l .loop .table)
-      (l .loop .progress .stats)
-  fits = under-fits (l .loop .inv .0) (toggles-lawful target) sound (l .loop .inv .2)
+  ready : Ready (s .args .measures) (s .args .psf .now) (s .args .gray .now) (s .args .c .now) (l .loop .dots)
+      (l .loop .table) (l .loop .progress .stats)
+  ready = record { later = scanning-fits (l .loop .inv) lawful sound; kernel = s .pre .kernel; bytes = s .pre .bytes }
 
 -- the cell reached is on the plate
 module _ (v : tie.Then1 Inv-loop μ-loop) where
-  abbrev here : tie.At-loop Inv-loop μ-loop
-  here = v .before .before .before
+  abbrev l : tie.At-loop Inv-loop μ-loop
+  l = search
 
-  abbrev n : ℕ
-  n = cellAt (s here .args .measures .width) (here .loop .cell .row) (here .loop .cell .col)
+  here : OnPlate (s l .args .measures) (l .loop .cell)
+  here = scanning-here (l .loop .inv) (lawful l) (sound l) (v .if1 .taken)
 
-  is-a-cell : n < s here .args .measures .height * s here .args .measures .width
-  is-a-cell = cell< (v .if1 .taken) (here .loop .inv .1)
-
-  low : here .loop .cell .row < 256
-  low = omega (arith, v .if1 .taken, s here .pre .0 .plate .halftone .high .1)
+  is-a-cell : cellOf (s l .args .measures .width) (l .loop .cell)
+      < s l .args .measures .height * s l .args .measures .width
+  is-a-cell = cell< (here .row-below) (here .col-below)
 
 clear-run-requires : tie.Need-clear-run-requires Inv-loop μ-loop
-clear-run-requires c κs =
-    let v = c .before .before in
-    let l = here v in
-    (fits l .plate .halftone, (fits l .state .table-is, (s l .pre .1, (v .if1 .taken, l .loop .inv .1))))
+clear-run-requires c κs = let v : tie.Then1 Inv-loop μ-loop = search in (ready-judged (ready (l v)), here v)
 
 ahead-requires : tie.Need-ahead-requires Inv-loop μ-loop
 ahead-requires c κs =
-    let v = c .before .before .before .before in
-    let l = here v in
-    (low v, l .loop .inv .1, s l .pre .0 .plate .halftone .wide .1, c .before .clear-run .ensures .0)
+    let v : tie.Then1 Inv-loop μ-loop = search in
+    let run : tie.After-clear-run Inv-loop μ-loop = search in
+    let (row, col, wide) = place-fits (ready-judged (ready (l v))) (here v) in
+    (row, col, wide, run .clear-run .ensures .0)
 
 loop-less : tie.Need-loop-less Inv-loop μ-loop
 loop-less c =
-    let a = c .before .before in
-    let v = a .before .before .before in
-    omega (arith, c .ahead .ensures .0, c .before .if2 .taken, is-a-cell v)
+    let v : tie.Then1 Inv-loop μ-loop = search in
+    let some : tie.Then2 Inv-loop μ-loop = search in
+    omega (arith, c .ahead .ensures .0, some .if2 .taken, is-a-cell v)
 
 loop-again : tie.Need-loop-again Inv-loop μ-loop
 loop-again c =
-    let a = c .before .before in
-    let v = a .before .before .before in
-    let l = here v in (
-      under-at (under-skip (n v) (a .clear-run .result) (l .loop .inv .0) (fits l)
-          (λ j h. toggle-declined (target l) (l .loop .dots) (l .loop .progress) (n v + j)
-          (a .clear-run .ensures .1 j h)))
-          (sym (c .ahead .ensures .0)),
-      c .ahead .ensures .1,
-      omega (
-        arith,
-        c .ahead .ensures .0,
-        a .clear-run .ensures .0,
-        rows-apart (s l .args .measures .width) (v .if1 .taken),
-      ),
-    )
+    let v : tie.Then1 Inv-loop μ-loop = search in
+    let run : tie.After-clear-run Inv-loop μ-loop = search in
+    scanning-ahead (l v .loop .inv) (lawful (l v)) (sound (l v)) (here v) (c .ahead .ensures .1) (c .ahead .ensures .0)
+    (run .clear-run .ensures .0)
+    (λ j h. toggle-declined (target (l v)) (l v .loop .dots) (l v .loop .progress) _ (run .clear-run .ensures .1 j h))
 
 run-end-requires : tie.Need-run-end-requires Inv-loop μ-loop
 run-end-requires c κs =
-    let v = c .before .before .before .before in
-    (low v, here v .loop .inv .1, s (here v) .pre .0 .plate .halftone .wide .1)
+    let v : tie.Then1 Inv-loop μ-loop = search in place-fits (ready-judged (ready (l v))) (here v)
 
 toggle-cell-requires : tie.Need-toggle-cell-requires Inv-loop μ-loop
 toggle-cell-requires c κs =
-    let v = c .before .before .before .before .before .before .before in
-    let l = here v in (
-      fits l,
-      (
-        s l .pre .1,
-        (
-          v .if1 .taken,
-          l .loop .inv .1,
-          under-few (l .loop .inv .0) (toggles-lawful (target l)) (sound l) (l .loop .inv .2),
-        ),
-      ),
-    )
+    let v : tie.Then1 Inv-loop μ-loop = search in
+    (ready (l v), (here v, scanning-few (l v .loop .inv) (lawful (l v)) (sound (l v))))
 
 next-requires : tie.Need-next-requires Inv-loop μ-loop
 next-requires c κs =
-    let v = c .before .before .before .before .before .before .before .before .before .before .before in
-    (low v, here v .loop .inv .1, s (here v) .pre .0 .plate .halftone .wide .1)
+    let v : tie.Then1 Inv-loop μ-loop = search in place-fits (ready-judged (ready (l v))) (here v)
 
 loop-less-2 : tie.Need-loop-less-2 Inv-loop μ-loop
 loop-less-2 c =
-    let v = c .before .before .before .before .before .before .before .before .before .before .before .before in
-    omega (arith, c .next .ensures .0, is-a-cell v)
+    let v : tie.Then1 Inv-loop μ-loop = search in omega (arith, c .next .ensures .0, is-a-cell v)
 
 loop-again-2 : tie.Need-loop-again-2 Inv-loop μ-loop
 loop-again-2 c =
-    let done = c .before .before .before .before .toggle-cell in
-    let v = c .before .before .before .before .before .before .before .before .before .before .before .before in (
-      under-at (under-next (here v .loop .inv .0) (done .ensures .0) (done .ensures .1 .0) (done .ensures .1 .1))
-          (sym (c .next .ensures .0)),
-      c .next .ensures .1,
-      omega (arith, c .next .ensures .0, is-a-cell v),
-    )
+    let v : tie.Then1 Inv-loop μ-loop = search in
+    let done : tie.After-toggle-cell Inv-loop μ-loop = search in
+    scanning-next (l v .loop .inv) (lawful (l v)) (sound (l v)) (here v) (c .next .ensures .1) (c .next .ensures .0)
+    refl (done .toggle-cell .ensures)
 
 same-length : tie.Need-same-length Inv-loop μ-loop
 same-length c =
-    let l = c .before .before .before in
-    fits l .plate .halftone .dots-length ∙ sym (s l .pre .0 .plate .halftone .dots-length)
+    let l : tie.At-loop Inv-loop μ-loop = search in
+    ready l .later .plate .halftone .dots-length ∙ sym (s l .pre .later .plate .halftone .dots-length)
 
 same-length-2 : tie.Need-same-length-2 Inv-loop μ-loop
 same-length-2 c =
-    let l = c .before .before .before in
-    fits l .plate .halftone .table-length ∙ sym (s l .pre .0 .plate .halftone .table-length)
+    let l : tie.At-loop Inv-loop μ-loop = search in
+    ready l .later .plate .halftone .table-length ∙ sym (s l .pre .later .plate .halftone .table-length)
 
 returns : tie.Need-returns Inv-loop μ-loop
 returns c =
-    let l = c .before .before .before in
-    under-end (l .loop .inv .0) (cells-done _ _ (c .if1 .left) (l .loop .inv .2))
+    let l : tie.At-loop Inv-loop μ-loop = search in scanning-end (l .loop .inv) (lawful l) (sound l) (c .if1 .left)
 
 pub toggle-all-spec : {M : Type 1} → statement M
 toggle-all-spec =

@@ -1,80 +1,62 @@
--- `search_trial::make_toggle` meets its contract: the ledger is counted, and dots and table after a turn are the reference's.
-use mathlib.Core.Path.{_≡_, sym, _∙_, ap, subst}
-use Prim.Native.Nat.{ℕ, _^_, _≤_, _<_}
+-- `search_trial::make_toggle` meets its contract: the other byte is stored, and the ledger counts it.
+use mathlib.Core.Path.{sym, _∙_, ap, subst}
+use Prim.Native.Nat.{ℕ, _-_, _≤_, _<_}
 use native.Mathlib.Omega.{arith}
 use borrow.Author.Needs.{needs}
+use lib.Dec.{eqb}
 use lib.IntN.{ℤ, natAbs}
+use lib.ListN.{length, getD, set}
 use mir.Syntax.{w64}
 use mir.Val.{toZ, ofZ}
-use Rattle.algebra.proofs.Grid.{cell<}
-use Rattle.algebra.proofs.Machine.{read-back, factors-fit}
-use Rattle.model.specs.Basic.{AtMost}
-use Rattle.model.specs.Error.{Target, targetFor, cellAt, filteredErrors}
+use Rattle.algebra.proofs.Machine.{read-back}
+use Rattle.model.specs.Basic.{pick}
+use Rattle.model.specs.Change.{made, toggle}
+use Rattle.model.specs.Error.{Target, targetFor, filteredErrors}
+use Rattle.model.specs.Ledger.{onCount, offCount, counted}
 use Rattle.model.specs.Reference.{accept}
-use Rattle.model.specs.State.{LaterFits}
-use Rattle.model.specs.Change.{toggle}
 use Rattle.model.proofs.Attempts.{counted-is}
-use Rattle.model.proofs.Turn.{toggle-made}
-use Rattle.filter_window.proofs.Rows.{index-fits}
-use Rattle.search_trial.proofs.Weighed.{flip-ready, flip-is, error-small}
+use Rattle.model.proofs.Turn.{toggle-sets}
+use Rattle.invariants.specs.Plate.{Judged, OnPlate, cellOf, mostChange}
+use Rattle.invariants.proofs.Plate.{ready-judged, place-fits, on-dots, countable}
 use Rattle.search_trial.proofs.make_toggle.Statement.{statement}
 use Rattle.search_trial.proofs.make_toggle.Tie as tie
 
 -- what is known from the start
-module _ (k : tie.After-struct-known) where
-  abbrev s : tie.Start
-  s = k .before .before .before .before
+module _ (s : tie.Start) where
+  judged : Judged (s .args .measures) (s .args .psf .now) (s .args .gray .now) (s .args .c .now)
+      (s .args .dots .now) (s .args .table .now)
+  judged = ready-judged (s .pre .0 .0)
 
-  abbrev fits : LaterFits (s .args .measures) (s .args .psf .now) (s .args .gray .now) (s .args .dots .now)
-      (s .args .table .now) (s .args .stats)
-  fits = s .pre .0
-
-  abbrev inside : (s .args .row < s .args .measures .height) × (s .args .col < s .args .measures .width)
-  inside = s .pre .1 .1 .0
+  abbrev on : OnPlate (s .args .measures) (s .args .at)
+  on = s .pre .0 .1
 
   abbrev t : Target
   t = targetFor (s .args .measures) (s .args .psf .now) (s .args .gray .now)
 
-  abbrev q : ℕ
-  q = cellAt (s .args .measures .width) (s .args .row) (s .args .col)
+index-requires : tie.Need-index-requires
+index-requires c κs = let s : tie.Start = search in place-fits (judged s) (on s)
 
-  bytes : AtMost 255 (s .args .gray .now)
-  bytes = record { each = λ i. omega (arith, k .before .before .shared-slice-known2 .given i) }
+slice-read-dot : tie.Need-slice-read-dot
+slice-read-dot c =
+    let s : tie.Start = search in
+    let i : tie.After-index = search in
+    subst (λ k. k < length (s .args .dots .now)) (sym (i .index .ensures)) (on-dots (judged s) (on s))
 
-  -- the change as its local holds it
-  back : toZ w64 (ofZ w64 (s .args .delta)) ≡ s .args .delta
-  back = read-back w64 (s .args .delta) (s .fits .delta .sfits)
+sub-store : tie.Need-sub-store
+sub-store c =
+    let s : tie.Start = search in
+    let i : tie.After-index = search in
+    judged s .plate .halftone .bits .each (i .index .result)
 
-mul-m : tie.Need-mul-m
-mul-m c =
-    let f = fits c .plate .halftone in
-    factors-fit 256 256 (omega (arith, f .high .1, inside c .0)) (f .wide .1) tt
-
-add-m : tie.Need-add-m
-add-m c =
-    let f = fits c .plate .halftone in
-    index-fits _ _ _ (omega (arith, f .high .1, inside c .0)) (f .wide .1) (omega (arith, f .wide .1, inside c .1))
-
-slice-read-count-toggle : tie.Need-slice-read-count-toggle
-slice-read-count-toggle c =
-    let k = c .before in
-    omega (arith, fits k .plate .halftone .dots-length, cell< (inside k .0) (inside k .1))
+store-requires : tie.Need-store-requires
+store-requires c κs = let s : tie.Start = search in (judged s, on s, omega arith)
 
 count-toggle-requires : tie.Need-count-toggle-requires
 count-toggle-requires c κs =
-    let k = c .before in (
-      (
-        error-small _ _ _ _ _ _ (fits k) (bytes k),
-        subst (λ (z : ℤ). natAbs z ≤ 2 ^ 50) (sym (back k)) (s k .pre .1 .1 .1 .1),
-      ),
-      (fits k .state .on-few, fits k .state .off-few),
-    )
-
-flip-requires : tie.Need-flip-requires
-flip-requires c κs =
-    let k = c .before .before .before .before in
-    flip-ready _ _ _ _ _ _ _ (fits k .plate .halftone) _ (s k .pre .1 .0) _ _ (inside k .0) (inside k .1)
-    (fits k .state .table-is) (bytes k)
+    let s : tie.Start = search in
+    countable (s .pre .0 .0)
+    (subst (λ (z : ℤ). natAbs z ≤ mostChange) (sym (read-back w64 (s .args .delta) (s .fits .delta .sfits)))
+    (s .pre .1 .small))
 
 same-length : tie.Need-same-length
 same-length c = search needs
@@ -83,34 +65,36 @@ same-length-2 : tie.Need-same-length-2
 same-length-2 c = search needs
 
 returns : tie.Need-returns
-unfolding toggle accept
+unfolding toggle accept made
 returns c =
-    let flip = c .before .before .before in
-    let count = flip .before .before .before in
-    let k = count .before .before in
-    let dots = s k .args .dots .now in
-    let as-made = toggle-made dots (fits k .plate .halftone .bits) (q k) in (
-      count .count-toggle .ensures
-          ∙ counted-is (t k) dots (s k .args .stats) (toggle dots (q k)) (fits k .state .error-is)
-          (back k ∙ s k .pre .1 .1 .1 .0),
-      (
-        flip .flip .ensures .0 ∙ sym as-made,
-        flip .flip .ensures .1
-            ∙ flip-is _ _ _ _ _ _ _ (fits k .plate .halftone) _ (s k .pre .1 .0) _ _ (inside k .0) (inside k .1)
-            (fits k .state .table-is)
-            ∙ ap (filteredErrors (t k)) (sym as-made),
-      ),
-    )
+    let s : tie.Start = search in
+    let i : tie.After-index = search in
+    let stored : tie.After-store = search in
+    let dots = s .args .dots .now in
+    let n = cellOf (s .args .measures .width) (s .args .at) in
+    let there = i .index .ensures in
+    let as-made =
+    ap (λ (k : ℕ). set dots n (1 - getD dots k 0)) there
+    ∙ sym (ap (made dots) (toggle-sets dots (judged s .plate .halftone .bits) n)) in
+    record {
+      answer-is =
+          c .count-toggle .ensures
+          ∙ ap (λ (k : ℕ). counted (s .args .stats) (toZ w64 (ofZ w64 (s .args .delta))) (pick (eqb (getD dots k 0) 0) onCount offCount)) there
+          ∙ counted-is (t s) dots (s .args .stats) (toggle dots n) (s .pre .0 .0 .later .state .error-is)
+          (read-back w64 (s .args .delta) (s .fits .delta .sfits) ∙ s .pre .1 .delta-is);
+      dots-are = stored .store .ensures .0 ∙ as-made;
+      table-is = stored .store .ensures .1 ∙ ap (filteredErrors (t s)) (stored .store .ensures .0 ∙ as-made);
+    }
 
 pub make-toggle-spec : {M : Type 1} → statement M
 make-toggle-spec =
     tie.close
     (tie.spec
-    mul-m
-    add-m
-    slice-read-count-toggle
+    index-requires
+    slice-read-dot
+    sub-store
+    store-requires
     count-toggle-requires
-    flip-requires
     same-length
     same-length-2
     returns)

@@ -1,84 +1,44 @@
 -- `search_trial::toggle` meets its contract: weighed, then declined or made, it is the reference's attempt.
-use mathlib.Core.Path.{_≡_, sym, _∙_, subst}
-use Prim.Native.Nat.{_^_, _≤_, _<_}
-use native.Mathlib.Omega.{arith}
+use mathlib.Core.Path.{sym, _∙_, subst}
 use borrow.Author.Needs.{needs}
-use lib.IntN.{ℤ, natAbs}
+use lib.IntN.{ℤ}
 use mir.Syntax.{w64}
 use mir.Val.{toZ, ofZ}
-use Rattle.algebra.proofs.Grid.{cell<}
-use Rattle.algebra.proofs.Machine.{read-back, factors-fit}
-use Rattle.model.specs.Error.{targetFor, cellAt}
-use Rattle.model.specs.State.{LaterFits}
-use Rattle.model.specs.Change.{Move, toggle, change}
-use Rattle.model.proofs.Attempts.{attempt-declined, attempt-accepted}
-use Rattle.model.proofs.State.{at-least, below}
-use Rattle.filter_window.proofs.Rows.{index-fits}
+use Rattle.algebra.proofs.Machine.{read-back}
+use Rattle.model.specs.Change.{Move}
+use Rattle.model.specs.Error.{Target, targetFor}
+use Rattle.invariants.specs.Plate.{toggleAt, Weighs}
+use Rattle.invariants.proofs.Plate.{ready-judged, attempt-declined, attempt-accepted}
 use Rattle.search_trial.proofs.toggle.Statement.{statement}
 use Rattle.search_trial.proofs.toggle.Tie as tie
 
--- what is known from the start
-module _ (k : tie.After-struct-known) where
-  abbrev s : tie.Start
-  s = k .before .before .before .before
-
-  abbrev fits : LaterFits (s .args .measures) (s .args .psf .now) (s .args .gray .now) (s .args .dots .now)
-      (s .args .table .now) (s .args .stats)
-  fits = s .pre .0
-
-  abbrev inside : (s .args .row < s .args .measures .height) × (s .args .col < s .args .measures .width)
-  inside = s .pre .1 .1
-
-  abbrev v : Move
-  v = toggle (s .args .dots .now) (cellAt (s .args .measures .width) (s .args .row) (s .args .col))
-
-mul-m : tie.Need-mul-m
-mul-m c =
-    let f = fits c .plate .halftone in
-    factors-fit 256 256 (omega (arith, f .high .1, inside c .0)) (f .wide .1) tt
-
-add-m : tie.Need-add-m
-add-m c =
-    let f = fits c .plate .halftone in
-    index-fits _ _ _ (omega (arith, f .high .1, inside c .0)) (f .wide .1) (omega (arith, f .wide .1, inside c .1))
-
 weigh-toggle-requires : tie.Need-weigh-toggle-requires
-weigh-toggle-requires c κs =
-    let k = c .before .before in
-    (fits k .plate .halftone, (fits k .state .table-is, (s k .pre .1 .0, cell< (inside k .0) (inside k .1))))
+weigh-toggle-requires c κs = let s : tie.Start = search in (ready-judged (s .pre .0), s .pre .1)
 
 -- the change as its local holds it
-module _ (c : tie.After-weigh-toggle) where
-  abbrev k : tie.After-struct-known
-  k = c .before .before .before
+module _ (w : tie.After-weigh-toggle) where
+  abbrev s : tie.Start
+  s = search
 
-  back : toZ w64 (ofZ w64 (c .weigh-toggle .result)) ≡ c .weigh-toggle .result
-  back = read-back w64 (c .weigh-toggle .result) (c .weigh-toggle .ok)
+  abbrev t : Target
+  t = targetFor (s .args .measures) (s .args .psf .now) (s .args .gray .now)
 
-  change-is : toZ w64 (ofZ w64 (c .weigh-toggle .result))
-      ≡ change (targetFor (s k .args .measures) (s k .args .psf .now) (s k .args .gray .now))
-      (s k .args .dots .now) (v k)
-  change-is = back ∙ c .weigh-toggle .ensures .0
+  abbrev v : Move
+  v = toggleAt (s .args .measures) (s .args .dots .now) (s .args .at)
+
+  abbrev delta : ℤ
+  delta = toZ w64 (ofZ w64 (w .weigh-toggle .result))
+
+  weighs : Weighs t (s .args .dots .now) v delta
+  weighs =
+      subst (Weighs t (s .args .dots .now) v)
+      (sym (read-back w64 (w .weigh-toggle .result) (w .weigh-toggle .ok))) (w .weigh-toggle .ensures)
 
 lowers-requires : tie.Need-lowers-requires
 lowers-requires c κs = search needs
 
 make-toggle-requires : tie.Need-make-toggle-requires
-make-toggle-requires c κs =
-    let w = c .before .before .before .before in
-    let a = k w in (
-      fits a,
-      (
-        s a .pre .1 .0,
-        (
-          inside a,
-          (
-            change-is w,
-            subst (λ (z : ℤ). natAbs z ≤ 2 ^ 50) (sym (back w)) (w .weigh-toggle .ensures .1),
-          ),
-        ),
-      ),
-    )
+make-toggle-requires c κs = let w : tie.After-weigh-toggle = search in (s w .pre, weighs w)
 
 same-length : tie.Need-same-length
 same-length c = search needs
@@ -88,12 +48,11 @@ same-length-2 c = search needs
 
 returns : tie.Need-returns
 returns c =
-    let m = c .before .before .before in
-    let lower = m .before .before .before in
-    let w = lower .before .before in
-    attempt-accepted _ _ _ _ _ _ (fits (k w)) (v (k w)) (change-is w)
-    (below (sym (lower .before .lowers .ensures) ∙ lower .if1 .taken))
-    (m .make-toggle .ensures .0) (m .make-toggle .ensures .1 .0) (m .make-toggle .ensures .1 .1)
+    let made : tie.After-make-toggle = search in
+    let lower : tie.Then1 = search in
+    let w : tie.After-weigh-toggle = search in
+    attempt-accepted (weighs w) (s w .args .stats) (sym (lower .before .lowers .ensures) ∙ lower .if1 .taken)
+    (made .make-toggle .ensures)
 
 same-length-3 : tie.Need-same-length-3
 same-length-3 c = search needs
@@ -103,16 +62,14 @@ same-length-4 c = search needs
 
 returns-2 : tie.Need-returns-2
 returns-2 c =
-    let w = c .before .before in
-    attempt-declined _ _ _ _ _ _ (fits (k w)) (v (k w)) (change-is w)
-    (at-least _ _ (sym (c .before .lowers .ensures) ∙ c .if1 .left))
+    let w : tie.After-weigh-toggle = search in
+    attempt-declined (weighs w) (s w .args .stats) (s w .pre .0 .later .state .table-is)
+    (sym (c .before .lowers .ensures) ∙ c .if1 .left)
 
 pub toggle-spec : {M : Type 1} → statement M
 toggle-spec =
     tie.close
     (tie.spec
-    mul-m
-    add-m
     weigh-toggle-requires
     lowers-requires
     make-toggle-requires

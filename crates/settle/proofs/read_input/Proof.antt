@@ -47,10 +47,10 @@ slice-reshare-prefix-put-bytes c = search needs
 -- what the read left in the chunk, and how much of it is taken
 module _ (c : tie.After-least Inv-loop μ-loop) where
   abbrev r : tie.After-read Inv-loop μ-loop
-  r = c .before .before .before .before .before .before .before
+  r = search
 
   abbrev l : tie.At-loop Inv-loop μ-loop
-  l = r .before .before .before
+  l = search
 
   chunk-long : length (r .read .last .1 .0) ≡ 4096
   chunk-long = r .read .kept .1 .0 ∙ l .loop .inv .2
@@ -62,22 +62,26 @@ module _ (c : tie.After-least Inv-loop μ-loop) where
   some = omega (arith, c .least .ensures, c .before .if2 .left, r .before .before .loop-test)
 
 slice-aggregate-put-bytes : tie.Need-slice-aggregate-put-bytes Inv-loop μ-loop
-slice-aggregate-put-bytes c = sym (length-take-le _ _ (taken (c .before .before) .0))
+slice-aggregate-put-bytes c =
+    let k : tie.After-least Inv-loop μ-loop = search in
+    sym (length-take-le _ _ (taken k .0))
 
 put-bytes-requires : tie.Need-put-bytes-requires Inv-loop μ-loop
-put-bytes-requires c κs = rw (length-take-le _ _ (taken (c .before .before) .0)) (taken (c .before .before) .1)
+put-bytes-requires c κs =
+    let k : tie.After-least Inv-loop μ-loop = search in
+    rw (length-take-le _ _ (taken k .0)) (taken k .1)
 
 -- the place after what was stored
-stored : (c : tie.After-slice-known3 Inv-loop μ-loop) → let p = c .before .before in
-    let k = p .before .before .before in
+stored : (c : tie.After-slice-known3 Inv-loop μ-loop) → let p : tie.After-put-bytes Inv-loop μ-loop = search in
+    let k : tie.After-least Inv-loop μ-loop = search in
     (p .put-bytes .result ≤ length (p .put-bytes .last .0))
     × (l k .loop .done < p .put-bytes .result)
     × (length (p .put-bytes .last .0) ≡ length (l k .loop .buf))
 stored c =
-    let p = c .before .before in
-    let k = p .before .before .before in
+    let p : tie.After-put-bytes Inv-loop μ-loop = search in
+    let k : tie.After-least Inv-loop μ-loop = search in
     let e : p .put-bytes .result ≡ l k .loop .done + k .least .result =
-    p .put-bytes .ensures .0 ∙ rw (length-take-le _ _ (taken k .0)) refl in
+    p .put-bytes .ensures .end-is ∙ rw (length-take-le _ _ (taken k .0)) refl in
     let q : length (p .put-bytes .last .0) ≡ length (l k .loop .buf) = p .put-bytes .kept .0 in
     (omega (arith, e, q, taken k), omega (arith, e, some k), q)
 
@@ -86,7 +90,7 @@ loop-less c = omega (arith, stored c)
 
 loop-again : tie.Need-loop-again Inv-loop μ-loop
 loop-again c =
-    let k = c .before .before .before .before .before in
+    let k : tie.After-least Inv-loop μ-loop = search in
     let (within, _, same) = stored c in
     (within, same ∙ l k .loop .inv .1, chunk-long k)
 

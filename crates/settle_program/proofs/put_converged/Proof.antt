@@ -1,7 +1,9 @@
 -- `settle_program::put_converged` meets its contract: what is put is by what settling answered and left.
-use native.Mathlib.Omega.{arith}
+use mathlib.Core.Path.{ap}
 use borrow.Author.Needs.{needs}
-use Rattle.settle_program.proofs.Texts.{converged-put}
+use Rattle.model.specs.Calls.{converged}
+use Rattle.model.specs.Program.{convergedText}
+use Rattle.settle_program.proofs.Texts.{prints-on}
 use Rattle.settle_program.proofs.put_converged.Statement.{statement}
 use Rattle.settle_program.proofs.put_converged.Tie as tie
 
@@ -31,14 +33,12 @@ same-length-3 c = search needs
 
 returns : tie.Need-returns
 returns c =
-    let p = c .before .before in
-    let k = p .before .before .before .before in
-    let e = k .before .before .before .before .before in
-    let a = e .before .before .before .before .before .before .before .args in
-    converged-put (a .m) (a .psf .now) (a .gray .now) (a .dots .now) (a .table .now)
-    40960 (omega arith) (a .out .now) (p .put-result .result) (p .put-result .last .1 .1 .1 .1 .1 .0)
-    (a .stats) _ _ _ (e .converge .ensures .0) (k .answer .given .1)
-    (e .converge .ensures .1 .0) (p .put-result .ensures)
+    let s : tie.Start = search in
+    let called : tie.After-converge = search in
+    let known : tie.After-answer = search in
+    let put : tie.After-put-result = search in
+    prints-on (λ r b. convergedText (s .args .m) (s .args .psf .now) (s .args .gray .now) r (b .dots))
+    (called .converge .ensures) (ap converged (known .answer .given .1)) (put .put-result .ensures)
 
 same-length-4 : tie.Need-same-length-4
 same-length-4 c = search needs
@@ -51,14 +51,12 @@ same-length-6 c = search needs
 
 returns-2 : tie.Need-returns-2
 returns-2 c =
-    let p = c .before .before in
-    let k = p .before .before .before in
-    let e = k .before .before .before .before .before in
-    let a = e .before .before .before .before .before .before .before .args in
-    converged-put (a .m) (a .psf .now) (a .gray .now) (a .dots .now) (a .table .now)
-    64 (omega arith) (a .out .now) (p .put-refused .result) (p .put-refused .last .0)
-    (a .stats) _ _ _ (e .converge .ensures .0) (k .answer2 .given .1)
-    (e .converge .ensures .1 .0) (p .put-refused .ensures)
+    let s : tie.Start = search in
+    let called : tie.After-converge = search in
+    let known : tie.After-answer2 = search in
+    let put : tie.After-put-refused = search in
+    prints-on (λ r b. convergedText (s .args .m) (s .args .psf .now) (s .args .gray .now) r (b .dots))
+    (called .converge .ensures) (ap converged (known .answer2 .given .1)) (put .put-refused .ensures)
 
 pub put-converged-spec : {M : Type 1} → statement M
 put-converged-spec =

@@ -1,7 +1,9 @@
 -- `settle_program::put_started` meets its contract: what is put is by what the start answered and left.
-use native.Mathlib.Omega.{arith}
+use mathlib.Core.Path.{ap}
 use borrow.Author.Needs.{needs}
-use Rattle.settle_program.proofs.Texts.{started-put}
+use Rattle.model.specs.Calls.{started}
+use Rattle.model.specs.Program.{startedText, processedText}
+use Rattle.settle_program.proofs.Texts.{prints-on}
 use Rattle.settle_program.proofs.put_started.Statement.{statement}
 use Rattle.settle_program.proofs.put_started.Tie as tie
 
@@ -30,15 +32,14 @@ same-length-3 : tie.Need-same-length-3
 same-length-3 c = search needs
 
 returns : tie.Need-returns
+unfolding processedText
 returns c =
-    let p = c .before .before .before .before .before in
-    let k = p .before .before .before .before .before in
-    let e = k .before .before .before .before .before in
-    let a = e .before .before .before .before .before .before .before .args in
-    started-put (a .m) (a .psf .now) (a .gray .now) (a .dots .now) (a .table .now)
-    40960 (omega arith) (a .out .now) (p .put-converged .result) (p .put-converged .last .1 .1 .1 .1 .1 .1 .0)
-    _ _ _ _ (e .start .ensures .0) (k .answer .given .1)
-    (e .start .ensures .1 .0) (e .start .ensures .1 .1 .0) (p .put-converged .ensures)
+    let s : tie.Start = search in
+    let called : tie.After-start = search in
+    let known : tie.After-answer = search in
+    let put : tie.After-put-converged = search in
+    prints-on (startedText (s .args .m) (s .args .psf .now) (s .args .gray .now)) (called .start .ensures .0)
+    (ap started (known .answer .given .1)) (put .put-converged .ensures)
 
 same-length-4 : tie.Need-same-length-4
 same-length-4 c = search needs
@@ -50,15 +51,14 @@ same-length-6 : tie.Need-same-length-6
 same-length-6 c = search needs
 
 returns-2 : tie.Need-returns-2
+unfolding processedText
 returns-2 c =
-    let p = c .before .before in
-    let k = p .before .before .before in
-    let e = k .before .before .before .before .before in
-    let a = e .before .before .before .before .before .before .before .args in
-    started-put (a .m) (a .psf .now) (a .gray .now) (a .dots .now) (a .table .now)
-    64 (omega arith) (a .out .now) (p .put-refused .result) (p .put-refused .last .0)
-    _ _ _ _ (e .start .ensures .0) (k .answer2 .given .1)
-    (e .start .ensures .1 .0) (e .start .ensures .1 .1 .0) (p .put-refused .ensures)
+    let s : tie.Start = search in
+    let called : tie.After-start = search in
+    let known : tie.After-answer2 = search in
+    let put : tie.After-put-refused = search in
+    prints-on (startedText (s .args .m) (s .args .psf .now) (s .args .gray .now)) (called .start .ensures .0)
+    (ap started (known .answer2 .given .1)) (put .put-refused .ensures)
 
 pub put-started-spec : {M : Type 1} → statement M
 put-started-spec =

@@ -1,14 +1,15 @@
 -- `sheet::write_sheet` meets its contract: each return is one outcome of `writeCall`.
 use mathlib.Core.Path.{_≡_, sym, _∙_, ap}
-use Prim.Native.Nat.{ℕ}
 use native.Mathlib.Omega.{arith}
 use borrow.Author.Needs.{needs}
 use Rattle.model.specs.Refusal.{writeRefusal}
 use Rattle.model.specs.Sheet.{InRange, Shaped}
 use Rattle.model.specs.Calls.{result}
 use Rattle.model.specs.SheetCalls.{writtenSheet}
+use Rattle.model.proofs.Calls.{ends-as}
+use Rattle.model.proofs.Puts.{front-length}
 use Rattle.model.proofs.Sheet.{written-shaped}
-use Rattle.sheet.proofs.Outcomes.{wrote, write-refused, write-short, write-done}
+use Rattle.sheet.proofs.Outcomes.{write-refused, write-short, write-done}
 use Rattle.sheet.proofs.write_sheet.Statement.{statement}
 use Rattle.sheet.proofs.write_sheet.Tie as tie
 
@@ -17,16 +18,13 @@ judge-sheet-requires c κs = search needs
 
 returns : tie.Need-returns
 returns c =
-    let judged = c .before in
-    let a = judged .before .before .before .before .before .args in
-    wrote
-    (write-refused (a .measures) (a .psf .now) (a .gray .now) (a .dots .now) (a .out .now)
-    (judged .judge-sheet .ensures) (c .if1 .taken))
+    let judged : tie.After-judge-sheet = search in
+    ends-as (write-refused _ _ _ _ _ (judged .judge-sheet .ensures) (c .if1 .taken))
 
 -- nothing is refused
 module _ (c : tie.Else1) where
   abbrev s : tie.Start
-  s = c .before .before .before .before .before .before
+  s = search
 
   taken : writeRefusal (s .args .measures) (s .args .psf .now) (s .args .gray .now) (s .args .dots .now) ≡ 0
   taken = sym (c .before .judge-sheet .ensures) ∙ c .if1 .left
@@ -40,31 +38,32 @@ sheet-length-requires c κs = shaped c
 
 returns-2 : tie.Need-returns-2
 returns-2 c =
-    let left = c .before .before in
-    let a = s left .args in
-    wrote
-    (write-short (a .measures) (a .psf .now) (a .gray .now) (a .dots .now) (a .out .now) (taken left)
-    (omega (arith, c .before .sheet-length .ensures)))
+    let e : tie.Else1 = search in
+    let long : tie.After-sheet-length = search in
+    ends-as (write-short _ _ _ _ _ (taken e) (omega (arith, long .sheet-length .ensures)))
 
 put-sheet-requires : tie.Need-put-sheet-requires
 put-sheet-requires c κs =
-    let left = c .before .before .before in
-    (shaped left .0, (shaped left .1, omega (arith, c .before .before .sheet-length .ensures)))
+    let e : tie.Else1 = search in
+    let long : tie.After-sheet-length = search in
+    (shaped e, omega (arith, long .sheet-length .ensures))
 
 same-length : tie.Need-same-length
 same-length c = search needs
 
 returns-3 : tie.Need-returns-3
 returns-3 c =
-    let put = c .before .before in
-    let fits = put .before .before in
-    let left = fits .before .before in
-    let a = s left .args in
-    let length-is = fits .before .sheet-length .ensures in
-    let done = wrote
-    (write-done (a .measures) (a .psf .now) (a .gray .now) (a .dots .now) (a .out .now) (taken left)
-    (omega (arith, length-is))) in
-    (ap (λ (k : ℕ). result k) length-is ∙ done .0, put .put-sheet .ensures ∙ done .1)
+    let put : tie.After-put-sheet = search in
+    let long : tie.After-sheet-length = search in
+    let e : tie.Else1 = search in
+    let a = s e .args in
+    let done = ends-as
+    (write-done (a .measures) (a .psf .now) (a .gray .now) (a .dots .now) (a .out .now) (taken e)
+    (omega (arith, long .sheet-length .ensures))) in
+    record {
+      reply-is = ap result (front-length (put .put-sheet .ensures)) ∙ done .reply-is;
+      left-is = put .put-sheet .ensures .bytes-are ∙ done .left-is;
+    }
 
 pub write-sheet-spec : {M : Type 1} → statement M
 write-sheet-spec =

@@ -2,7 +2,8 @@
 use mathlib.Core.List.{[], _∷_, _++_}
 use mathlib.Core.Path.{_≡_, sym, _∙_, ap}
 use borrow.Author.Needs.{needs}
-use Rattle.model.specs.Format.{fixed, grid, block, parseNext}
+use Rattle.model.specs.Format.{fixed, grid, block}
+use Rattle.invariants.specs.Reading.{parseNext}
 use Rattle.sheet_fields.proofs.Parts.{next-on, next-off, next-append}
 use Rattle.sheet_fields.proofs.judge_block.Statement.{statement}
 use Rattle.sheet_fields.proofs.judge_block.Tie as tie

@@ -1,13 +1,16 @@
 -- `sheet_fields::next_field` meets its contract.
 use borrow.Author.Needs.{needs}
 use borrow.Author.Tests.{eq-eqb, ne-eqb}
-use Rattle.model.specs.Format.{fieldNext}
+use Rattle.invariants.specs.Reading.{fieldNext}
 use Rattle.sheet_fields.proofs.next_field.Statement.{statement}
 use Rattle.sheet_fields.proofs.next_field.Tie as tie
 
+field-of-requires : tie.Need-field-of-requires
+field-of-requires c κs = search needs
+
 returns : tie.Need-returns
 unfolding fieldNext
-returns c = rw (ne-eqb _ 0 (c .if1 .taken))
+returns c = rw (ne-eqb _ 0 (c .before .if1 .taken)) (c .field-of .ensures)
 
 read-field-requires : tie.Need-read-field-requires
 read-field-requires c κs = search needs
@@ -17,4 +20,4 @@ unfolding fieldNext
 returns-2 c = rw (eq-eqb _ 0 (c .before .if1 .left)) (c .read-field .ensures)
 
 pub next-field-spec : {M : Type 1} → statement M
-next-field-spec = tie.close (tie.spec returns read-field-requires returns-2)
+next-field-spec = tie.close (tie.spec field-of-requires returns read-field-requires returns-2)

@@ -2,7 +2,8 @@
 use mathlib.Core.List.{List}
 use mathlib.Core.Path.{_∙_, ap}
 use borrow.Author.Needs.{needs}
-use Rattle.model.specs.Format.{Part, place, parseNext}
+use Rattle.model.specs.Format.{Part, place}
+use Rattle.invariants.specs.Reading.{parseNext}
 use Rattle.sheet_read.proofs.Blocks.{psf-block, gray-block, blocks-place}
 use Rattle.sheet_read.proofs.judge_blocks.Statement.{statement}
 use Rattle.sheet_read.proofs.judge_blocks.Tie as tie

@@ -3,7 +3,8 @@ use mathlib.Core.List.{List}
 use mathlib.Core.Path.{_∙_, ap}
 use native.Mathlib.Omega.{arith}
 use borrow.Author.Needs.{needs}
-use Rattle.model.specs.Format.{Part, parseNext}
+use Rattle.model.specs.Format.{Part}
+use Rattle.invariants.specs.Reading.{parseNext}
 use Rattle.sheet_read.proofs.Blocks.{dots-block, no-dots, next-none}
 use Rattle.sheet_read.proofs.judge_dots.Statement.{statement}
 use Rattle.sheet_read.proofs.judge_dots.Tie as tie

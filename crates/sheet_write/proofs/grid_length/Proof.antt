@@ -7,7 +7,7 @@ use borrow.Author.Needs.{needs}
 use lib.ListN.{length, drop, getD, drop-of-length-le}
 use Rattle.model.specs.Text.{digits}
 use Rattle.model.specs.Sheet.{gridLength}
-use Rattle.sheet_write.proofs.Puts.{length-next}
+use Rattle.sheet_write.proofs.Parts.{length-next}
 use Rattle.sheet_write.proofs.grid_length.Statement.{statement}
 use Rattle.sheet_write.proofs.grid_length.Tie as tie
 
@@ -29,7 +29,9 @@ wide-requires c κs = search needs
 
 digit-count-requires : tie.Need-digit-count-requires Inv-loop μ-loop
 digit-count-requires c κs =
-    omega (arith, c .wide .ensures, c .before .shared-slice-known2 .given (c .before .before .before .loop .i))
+    let l : tie.At-loop Inv-loop μ-loop = search in
+    let read : tie.After-shared-slice-known2 Inv-loop μ-loop = search in
+    omega (arith, c .wide .ensures, read .shared-slice-known2 .given (l .loop .i))
 
 add-sum : tie.Need-add-sum Inv-loop μ-loop
 add-sum c = search needs
@@ -45,16 +47,19 @@ loop-less c = search needs
 
 loop-again : tie.Need-loop-again Inv-loop μ-loop
 loop-again c =
-    let at = c .before .before .before .before in
-    let values = at .before .before .args .values .now in
-    let i = at .loop .i in
-    let count : c .digit-count .result ≡ length (digits (getD values i 0)) =
-    c .digit-count .ensures .0 ∙ ap (λ v. length (digits v)) (c .before .wide .ensures) in
-    (omega arith, omega arith, omega (arith, length-next values i (omega arith)))
+    let s : tie.Start Inv-loop μ-loop = search in
+    let l : tie.At-loop Inv-loop μ-loop = search in
+    let read : tie.After-wide Inv-loop μ-loop = search in
+    let vs = s .args .values .now in
+    let i = l .loop .i in
+    let count : c .digit-count .result ≡ length (digits (getD vs i 0)) =
+    c .digit-count .ensures .0 ∙ ap (λ v. length (digits v)) (read .wide .ensures) in
+    (omega arith, omega arith, omega (arith, length-next vs i (omega arith)))
 
 returns : tie.Need-returns Inv-loop μ-loop
 returns c =
-    let none = drop-of-length-le (c .before .before .before .args .values .now) (c .loop-test .left) in
+    let s : tie.Start Inv-loop μ-loop = search in
+    let none = drop-of-length-le (s .args .values .now) (c .loop-test .left) in
     (omega (arith, ap gridLength none), omega arith)
 
 pub grid-length-spec : {M : Type 1} → statement M

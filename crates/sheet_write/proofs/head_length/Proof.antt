@@ -2,7 +2,7 @@
 use native.Mathlib.Omega.{arith}
 use borrow.Author.Needs.{needs}
 use Rattle.model.proofs.Text.{length-low}
-use Rattle.sheet_write.proofs.Puts.{head-length}
+use Rattle.sheet_write.proofs.Parts.{head-length}
 use Rattle.sheet_write.proofs.head_length.Statement.{statement}
 use Rattle.sheet_write.proofs.head_length.Tie as tie
 
@@ -47,8 +47,8 @@ add-result-5 c = search needs
 
 returns : tie.Need-returns
 returns c =
-    let m = c .before .before .before .before .args .m in
-    (omega (arith, head-length m, length-low 2 (omega arith)), omega arith)
+    let s : tie.Start = search in
+    (omega (arith, head-length (s .args .m), length-low 2 (omega arith)), omega arith)
 
 pub head-length-spec : {M : Type 1} → statement M
 head-length-spec =

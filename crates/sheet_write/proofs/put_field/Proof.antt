@@ -1,9 +1,6 @@
 -- `sheet_write::put_field` meets its contract: the number is put first, then the byte that ends it.
-use mathlib.Core.List.{[], _∷_}
-use native.Mathlib.Omega.{arith}
 use borrow.Author.Needs.{needs}
-use Rattle.model.specs.Text.{digits}
-use Rattle.model.proofs.Tables.{sets-append}
+use Rattle.model.proofs.Puts.{puts-byte, puts-then}
 use Rattle.sheet_write.proofs.put_field.Statement.{statement}
 use Rattle.sheet_write.proofs.put_field.Tie as tie
 
@@ -21,9 +18,9 @@ same-length c = search needs
 
 returns : tie.Need-returns
 returns c =
-    let p = c .before .before .put-number in
-    let a = c .before .before .before .before .before .args in
-    (omega arith, rw (sets-append (digits (a .n)) (a .end ∷ []) (a .out .now) (a .at), p .ensures .0, p .ensures .1))
+    let s : tie.Start = search in
+    let put : tie.After-put-number = search in
+    puts-then (put .put-number .ensures) (puts-byte (s .args .end))
 
 pub put-field-spec : {M : Type 1} → statement M
 put-field-spec =

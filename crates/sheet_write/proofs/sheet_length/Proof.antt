@@ -1,7 +1,7 @@
 -- `sheet_write::sheet_length` meets its contract.
 use native.Mathlib.Omega.{arith}
 use borrow.Author.Needs.{needs}
-use Rattle.sheet_write.proofs.Puts.{sheet-length, psf-most, cells-most}
+use Rattle.sheet_write.proofs.Parts.{sheet-length, psf-most, cells-most}
 use Rattle.sheet_write.proofs.sheet_length.Statement.{statement}
 use Rattle.sheet_write.proofs.sheet_length.Tie as tie
 
@@ -10,7 +10,7 @@ head-length-requires c κs = search needs
 
 grid-length-requires : tie.Need-grid-length-requires
 grid-length-requires c κs =
-    let s = c .before .before .before .before in
+    let s : tie.Start = search in
     let a = s .args in
     psf-most (a .m) (a .psf .now) (a .gray .now) (a .dots .now) (s .pre .0) (s .pre .1)
 
@@ -19,7 +19,7 @@ add-psf-block c = search needs
 
 grid-length-requires-2 : tie.Need-grid-length-requires-2
 grid-length-requires-2 c κs =
-    let s = c .before .before .before .before .before in
+    let s : tie.Start = search in
     let a = s .args in
     cells-most (a .m) (a .psf .now) (a .gray .now) (a .dots .now) (s .pre .0) (s .pre .1) .0
 
@@ -28,7 +28,7 @@ add-gray-block c = search needs
 
 grid-length-requires-3 : tie.Need-grid-length-requires-3
 grid-length-requires-3 c κs =
-    let s = c .before .before .before .before .before .before in
+    let s : tie.Start = search in
     let a = s .args in
     cells-most (a .m) (a .psf .now) (a .gray .now) (a .dots .now) (s .pre .0) (s .pre .1) .1
 
@@ -46,7 +46,7 @@ add-result-3 c = search needs
 
 returns : tie.Need-returns
 returns c =
-    let s = c .before .before .before .before .before .before .before in
+    let s : tie.Start = search in
     let a = s .args in
     omega (arith, sheet-length (a .m) (a .psf .now) (a .gray .now) (a .dots .now) (s .pre .0) (s .pre .1))
 

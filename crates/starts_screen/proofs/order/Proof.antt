@@ -63,48 +63,51 @@ abbrev μ-loop : tie.MeasureT-loop
 
 loop-holds : tie.Need-loop-holds Inv-loop μ-loop
 loop-holds c =
-    let (wide, long) = c .before .before .before .pre .1 in
+    let s : tie.Start Inv-loop μ-loop = search in
+    let (wide, long) = s .pre .1 in
     record { within = omega arith; place = omega arith; column = wide; filling = fill-none long }
 
 shared-slice-read-screen : tie.Need-shared-slice-read-screen Inv-loop μ-loop
 shared-slice-read-screen c = omega arith
 
 threshold-requires : tie.Need-threshold-requires Inv-loop μ-loop
-threshold-requires c κs = c .before .before .before .before .before .before .pre .0
+threshold-requires c κs = let s : tie.Start Inv-loop μ-loop = search in s .pre .0
 
 screen-requires : tie.Need-screen-requires Inv-loop μ-loop
 screen-requires c κs = tt
 
 slice-write-dots : tie.Need-slice-write-dots Inv-loop μ-loop
-slice-write-dots c = omega (arith, c .before .before .before .before .loop .inv .filling .long)
+slice-write-dots c = let l : tie.At-loop Inv-loop μ-loop = search in omega (arith, l .loop .inv .filling .long)
 
 add-n : tie.Need-add-n Inv-loop μ-loop
 add-n c = omega arith
 
 add-col : tie.Need-add-col Inv-loop μ-loop
-add-col c = omega (arith, c .before .before .before .before .loop .inv .column)
+add-col c = let l : tie.At-loop Inv-loop μ-loop = search in omega (arith, l .loop .inv .column)
 
 add-row : tie.Need-add-row Inv-loop μ-loop
-add-row c = omega (arith, row≤ (c .before .before .before .before .before .loop .inv))
+add-row c = let l : tie.At-loop Inv-loop μ-loop = search in omega (arith, row≤ (l .loop .inv))
 
 loop-less : tie.Need-loop-less Inv-loop μ-loop
 loop-less c = omega arith
 
 loop-again : tie.Need-loop-again Inv-loop μ-loop
 loop-again c =
-    next-row (c .before .before .before .before .before .loop .inv) (omega arith)
-    (c .before .before .threshold .ensures) (c .before .screen .ensures) (c .if1 .taken)
+    let l : tie.At-loop Inv-loop μ-loop = search in
+    let t : tie.After-threshold Inv-loop μ-loop = search in
+    next-row (l .loop .inv) (omega arith) (t .threshold .ensures) (c .before .screen .ensures) (c .if1 .taken)
 
 loop-less-2 : tie.Need-loop-less-2 Inv-loop μ-loop
 loop-less-2 c = omega arith
 
 loop-again-2 : tie.Need-loop-again-2 Inv-loop μ-loop
 loop-again-2 c =
-    next-column (c .before .before .before .before .before .loop .inv) (omega arith)
-    (c .before .before .threshold .ensures) (c .before .screen .ensures) (c .if1 .left)
+    let l : tie.At-loop Inv-loop μ-loop = search in
+    let t : tie.After-threshold Inv-loop μ-loop = search in
+    next-column (l .loop .inv) (omega arith) (t .threshold .ensures) (c .before .screen .ensures) (c .if1 .left)
 
 same-length : tie.Need-same-length Inv-loop μ-loop
-same-length c = c .before .loop .inv .filling .long ∙ sym (c .before .before .before .before .before .pre .1 .1)
+same-length c = let s : tie.Start Inv-loop μ-loop = search in c .before .loop .inv .filling .long ∙ sym (s .pre .1 .1)
 
 returns : tie.Need-returns Inv-loop μ-loop
 returns c = fill-all (c .before .loop .inv .filling) (omega arith)

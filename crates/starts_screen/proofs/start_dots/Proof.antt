@@ -1,6 +1,6 @@
--- `starts_screen::start_dots` meets its contract: each kind has its own function, and kind 2 leaves the dots as they are.
--- That the table of 256 thresholds follows the bit rule is one computed test of the whole table: `refl` in
--- `order-requires`, where it is lent.
+-- `starts_screen::start_dots` meets its contract: each kind has its own function, and kind 2 leaves the dots as they
+-- are. That the table of 256 thresholds follows the bit rule is one computed test of the whole table: `refl` in `order-
+-- requires`, where it is lent.
 use mathlib.Core.Path.{refl, sym, _∙_, ap}
 use borrow.Author.Needs.{needs}
 use Rattle.model.specs.Basic.{tabulate}
@@ -10,8 +10,8 @@ use Rattle.model.proofs.Screen.{is-blank, is-ordered, is-given}
 use Rattle.starts_screen.proofs.start_dots.Statement.{statement}
 use Rattle.starts_screen.proofs.start_dots.Tie as tie
 
-blank-requires : tie.Need-blank-requires
-blank-requires c κs = search needs
+clear-bytes-requires : tie.Need-clear-bytes-requires
+clear-bytes-requires c κs = search needs
 
 slice-aggregate-order : tie.Need-slice-aggregate-order
 slice-aggregate-order c = search needs
@@ -19,7 +19,8 @@ slice-aggregate-order c = search needs
 order-requires : tie.Need-order-requires
 unfolding thresholds tabulate total bayer
 order-requires c κs =
-    let (wide, (gray, dots)) = c .before .before .before .before .before .pre in
+    let s : tie.Start = search in
+    let (wide, (gray, dots)) = s .pre in
     (refl, (wide, dots ∙ sym gray))
 
 same-length : tie.Need-same-length
@@ -27,24 +28,27 @@ same-length c = search needs
 
 returns : tie.Need-returns
 returns c =
-    let s = c .before .before .before .before .before .before .before in
-    c .before .before .blank .ensures
-    ∙ ap (λ k. tabulate k (λ n. 0)) (s .pre .1 .1)
-    ∙ sym (is-blank _ _ _ (c .before .before .before .before .match .keys1))
+    let s : tie.Start = search in
+    let m : tie.At-match-keys1 = search in
+    let k : tie.After-clear-bytes = search in
+    k .clear-bytes .ensures ∙ ap (λ k. tabulate k (λ n. 0)) (s .pre .1 .1) ∙ sym (is-blank _ _ _ (m .match .keys1))
 
 same-length-2 : tie.Need-same-length-2
 same-length-2 c = search needs
 
 returns-2 : tie.Need-returns-2
 returns-2 c =
-    let s = c .before .before .before .before .before .before .before .before in
-    c .before .before .order .ensures
+    let s : tie.Start = search in
+    let m : tie.At-match-keys2 = search in
+    let k : tie.After-order = search in
+    k .order .ensures
     ∙ ap (λ k. tabulate k (ordered (s .args .measures .width) (s .args .gray .now))) (s .pre .1 .0)
-    ∙ sym (is-ordered _ _ _ (c .before .before .before .before .before .match .keys2))
+    ∙ sym (is-ordered _ _ _ (m .match .keys2))
 
 returns-3 : tie.Need-returns-3
 returns-3 c =
-    let a = c .before .before .before .args in
+    let s : tie.Start = search in
+    let a = s .args in
     let rest = c .match .rest in
     sym (is-given (a .measures) (a .gray .now) (a .dots .now) (rest .0 .1) (rest .1))
 
@@ -52,7 +56,7 @@ pub start-dots-spec : {M : Type 1} → statement M
 start-dots-spec =
     tie.close
     (tie.spec
-    blank-requires
+    clear-bytes-requires
     slice-aggregate-order
     order-requires
     same-length

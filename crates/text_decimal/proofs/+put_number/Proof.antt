@@ -1,12 +1,12 @@
 -- `text_decimal::put_number` meets its contract. It calls itself with a tenth of the number, which falls.
-use Prim.Native.Nat.{ℕ, _<_}
+use Prim.Native.Nat.{ℕ, _+_, _%_, _<_}
 use native.Mathlib.Omega.{arith}
 use borrow.Author.Needs.{needs}
 use borrow.Fn.Kinds.{In}
 use borrow.Fn.PlainCycle.{Measures, is, falls, and}
 use lib.ListN.{length-set}
-use Rattle.model.proofs.Text.{digits-low, length-low, length-more}
-use Rattle.text_decimal.proofs.Digits.{last-digit}
+use Rattle.model.proofs.Puts.{puts-byte, puts-then}
+use Rattle.model.proofs.Text.{digits-low, digits-more, length-low, length-more}
 use Rattle.text_decimal.proofs.put_number.Reads as reads
 use Rattle.text_decimal.proofs.put_number.Kinds as kinds
 use Rattle.text_decimal.proofs.+put_number.Lts-put_number as lts
@@ -24,6 +24,13 @@ module _ (t : ℕ) where
   abbrev below : In 1 kinds.ps
   below = and 1 kinds.ps (falls 1 kinds.ps _<_ μ t) reads.Pre
 
+  -- places that the needs name
+  abbrev Start : Type 0
+  Start = lts.Start (below, reads.Post) here reads.Post
+
+  abbrev Else1 : Type 0
+  Else1 = lts.Else1 (below, reads.Post) here reads.Post
+
   cast-out : lts.Need-cast-out (below, reads.Post) here reads.Post
   cast-out c = search needs
 
@@ -31,22 +38,27 @@ module _ (t : ℕ) where
   add-out c = search needs
 
   slice-write-out : lts.Need-slice-write-out (below, reads.Post) here reads.Post
-  slice-write-out c = omega (arith, length-low (c .before .before .args .n) (c .if1 .taken))
+  slice-write-out c =
+      let s : Start = search in
+      omega (arith, length-low (s .args .n) (c .if1 .taken))
 
   add-result : lts.Need-add-result (below, reads.Post) here reads.Post
-  add-result c = omega (arith, length-low (c .before .before .args .n) (c .if1 .taken))
+  add-result c =
+      let s : Start = search in
+      omega (arith, length-low (s .args .n) (c .if1 .taken))
 
   same-length : lts.Need-same-length (below, reads.Post) here reads.Post
   same-length c = search needs
 
   returns : lts.Need-returns (below, reads.Post) here reads.Post
   returns c =
-      let n = c .before .before .args .n in
-      (omega (arith, length-low n (c .if1 .taken)), rw (digits-low n (c .if1 .taken)))
+      let s : Start = search in
+      rw (digits-low (s .args .n) (c .if1 .taken)) (puts-byte (48 + s .args .n))
 
   put-number-requires : lts.Need-put-number-requires (below, reads.Post) here reads.Post
   put-number-requires c κs =
-      (omega arith, omega (arith, length-more (c .before .before .before .args .n) (c .before .if1 .left)))
+      let s : Start = search in
+      (omega arith, omega (arith, length-more (s .args .n) (c .before .if1 .left)))
 
   cast-out-2 : lts.Need-cast-out-2 (below, reads.Post) here reads.Post
   cast-out-2 c = search needs
@@ -56,27 +68,26 @@ module _ (t : ℕ) where
 
   slice-write-out-2 : lts.Need-slice-write-out-2 (below, reads.Post) here reads.Post
   slice-write-out-2 c =
-      let left = c .before .before .before .before in
-      let kept = c .before .before .put-number .kept .0 in
-      omega (arith, length-more (left .before .before .args .n) (left .if1 .left), kept)
+      let s : Start = search in
+      let e : Else1 = search in
+      let put : lts.After-put-number (below, reads.Post) here reads.Post = search in
+      omega (arith, length-more (s .args .n) (e .if1 .left), put .put-number .kept .0)
 
   add-result-2 : lts.Need-add-result-2 (below, reads.Post) here reads.Post
   add-result-2 c =
-      let left = c .before .before .before .before in
-      omega (arith, length-more (left .before .before .args .n) (left .if1 .left))
+      let s : Start = search in
+      let e : Else1 = search in
+      omega (arith, length-more (s .args .n) (e .if1 .left))
 
   same-length-2 : lts.Need-same-length-2 (below, reads.Post) here reads.Post
   same-length-2 c = simp length-set (c .before .before .put-number .kept .0)
 
   returns-2 : lts.Need-returns-2 (below, reads.Post) here reads.Post
   returns-2 c =
-      let put = c .before .before .put-number in
-      let left = c .before .before .before .before in
-      let a = left .before .before .args in (
-        omega (arith, length-more (a .n) (left .if1 .left)),
-        last-digit (a .out .now) (put .last .0) (a .at) (put .result) (a .n) (left .if1 .left)
-            (put .ensures .0) (put .ensures .1),
-      )
+      let s : Start = search in
+      let e : Else1 = search in
+      let put : lts.After-put-number (below, reads.Post) here reads.Post = search in
+      rw (digits-more (s .args .n) (e .if1 .left)) (puts-then (put .put-number .ensures) (puts-byte (48 + s .args .n % 10)))
 
 pub +put-number-spec : {M : Type 1} → statement M
 +put-number-spec =

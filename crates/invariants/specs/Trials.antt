@@ -1,0 +1,54 @@
+-- A scan at one cell, and the trials of a swap scan there: which partner is taken, and that none of the first is.
+use mathlib.Core.Bool.{Bool, false, _&&_, not}
+use mathlib.Core.List.{List}
+use mathlib.Core.Path.{_≡_}
+use Prim.Native.Nat.{ℕ, _+_, _<_}
+use lib.Dec.{eqb}
+use lib.IntN.{ℤ, pos, _+ℤ_, _-ℤ_, _*ℤ_}
+use lib.ListN.{getD, drop}
+use lib.Signed.{ltZ}
+use Rattle.model.specs.declared.Progress.{Progress}
+use Rattle.model.specs.Change.{sign, swap, lowers}
+use Rattle.model.specs.Error.{Target}
+use Rattle.model.specs.Partners.{Offset, offsets, partner}
+use Rattle.model.specs.Calls.{Reply, result, refused}
+use Rattle.model.specs.Reference.{reference, Performed, Tried, accepted, declined}
+use Rattle.model.specs.Scan.{Rule, Sweep, suits, swapsBy, tryEach, progressOf}
+use Rattle.invariants.specs.Partners.{offsetOf, itself}
+
+-- a trial by the table: the dots of m and n are unlike, and s(m) × (T(m) - T(n)) + worth is below 0
+abbrev pub lowersBy : (dots : List ℕ) (table : List ℤ) (m n : ℕ) (worth : ℤ) → Bool
+lowersBy dots table m n worth =
+    not (eqb (getD dots m 0) (getD dots n 0))
+    && ltZ (sign dots m *ℤ (getD table m (pos 0) -ℤ getD table n (pos 0)) +ℤ worth) (pos 0)
+
+-- what a scan has come to once an attempt has answered
+abbrev pub advanced : Progress → Reply Tried → Progress
+advanced r (result (accepted s d)) = record { stats = s; changes = r .changes + 1 }
+advanced r (result (declined d)) = r
+advanced r (refused n k) = r
+
+-- a scan under way, with these dots and the figures of this progress
+abbrev pub sweepOf : List ℕ → Progress → Sweep
+sweepOf dots r = record { after = reference dots (r .stats); changes = r .changes }
+
+module _ (t : Target) where
+  -- what a scan under way has done so far
+  abbrev pub performed : Sweep → Performed Progress
+  performed s = record { answer = progressOf t s; after = s .after }
+
+  -- a scan at cell m, having come to that so far
+  abbrev pub visit : Rule → List ℕ → Progress → ℕ → Sweep
+  visit rule dots r m = tryEach t (sweepOf dots r) (rule dots m)
+
+  -- a swap scan from the k-th offset on
+  abbrev pub swapsAfter : (reach k : ℕ) → Rule
+  swapsAfter reach k = swapsBy t (drop k (offsets reach))
+
+  -- the partner at that offset suits, and the swap with it lowers E: cell m takes it
+  abbrev pub lowersAt : (dots : List ℕ) (m : ℕ) → Offset → Bool
+  lowersAt dots m o = suits t dots m o && lowers t dots (swap dots m (partner (t .width) m o))
+
+  -- it takes none at the first k offsets within reach
+  pub record Failed (reach : ℕ) (dots : List ℕ) (m k : ℕ) : Type 0 where
+    pub each : (j : ℕ) → j < k → lowersAt dots m (getD (offsets reach) j (offsetOf itself)) ≡ false

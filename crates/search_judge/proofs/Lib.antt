@@ -1,0 +1,2 @@
+-- What the proofs of the later calls' judges share.
+pub mod Lists

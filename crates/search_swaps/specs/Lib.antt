@@ -1,2 +1,0 @@
--- What the trials of a swap scan show.
-pub mod Trials

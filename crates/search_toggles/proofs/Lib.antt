@@ -1,3 +1,0 @@
--- Laws that the proofs of both scans share.
-pub mod Visit
-pub mod Under
