@@ -13,7 +13,7 @@ abbrev pub mostWidened : ℕ
 mostWidened = 68644
 
 -- gray, dots and another slice of that length, all as long as one another and no longer than the largest plate
-pub record Alike (gray dots : List ℕ) (n : ℕ) : Type 0 where
+pub record SameCells (gray dots : List ℕ) (n : ℕ) : Type 0 where
   pub dots-long : length dots ≡ length gray
   pub long : n ≡ length gray
   pub few : length gray ≤ mostCells

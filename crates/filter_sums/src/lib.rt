@@ -6,7 +6,7 @@ ghost use lib.ListN.{length, getD};
 ghost use Rattle.model.specs.Error.{errorOf, targetOf, mostCells, mostFiltered, filteredErrors, squaredError};
 ghost use Rattle.model.specs.Refusal.{HalftoneFits};
 ghost use Rattle.invariants.specs.Window.{Small};
-ghost use Rattle.filter_sums.specs.Sums.{Alike, errorsOf, weighed};
+ghost use Rattle.filter_sums.specs.Sums.{SameCells, errorsOf, weighed};
 use filter_passes::gather;
 use filter_passes::spread;
 
@@ -23,7 +23,7 @@ fn error_at(gray: &[u8], dots: &[u8], n: usize) -> i32
 
 // the error of each cell
 fn errors(gray: &[u8], dots: &[u8], out: &mut [i32])
-    requires { ⌜ Alike (now gray) (now dots) (length (now out)) ⌝ }
+    requires { ⌜ SameCells (now gray) (now dots) (length (now out)) ⌝ }
     ensures { λ _. ⌜ now (out .exit) ≡ errorsOf (now (gray .entry)) (now (dots .entry)) ⌝ }
 {
     let mut n: usize = 0;
@@ -36,7 +36,7 @@ fn errors(gray: &[u8], dots: &[u8], out: &mut [i32])
 
 // Σ e(m) × T(m) over the cells, the T(m) being in the table
 fn weigh(gray: &[u8], dots: &[u8], table: &[i32]) -> i64
-    requires { ⌜ Alike (now gray) (now dots) (length (now table)) × Small mostFiltered (now table) ⌝ }
+    requires { ⌜ SameCells (now gray) (now dots) (length (now table)) × Small mostFiltered (now table) ⌝ }
     ensures { λ r. ⌜ r ≡ weighed (now (gray .entry)) (now (dots .entry)) (now (table .entry)) ⌝ }
 {
     let mut sum: i64 = 0;

@@ -39,8 +39,8 @@ use Rattle.model.proofs.Reference.{halftone-made}
 use Rattle.model.proofs.Attempts.{attempt-cases}
 use Rattle.model.proofs.Calls.{ends-done}
 use Rattle.invariants.specs.Window.{Small, HoldsSquare, addWindow, mostKernel}
-use Rattle.invariants.specs.Plate.{Judged, Ready, OnPlate, cellOf, swapAt, Unlike}
-use Rattle.invariants.specs.Plate.{mostChange, Weighs, Countable, Leaves, accepting, replied}
+use Rattle.invariants.specs.Plate.{Judged, Ready, OnPlate, cellOf, cellSwap, Unlike}
+use Rattle.invariants.specs.Plate.{mostChange, Weighs, Countable, Leaves, accepting, asReply}
 use Rattle.invariants.proofs.Window.{square-small, store-table, table-small}
 
 -- what a slice of bytes is known to hold
@@ -177,7 +177,7 @@ module _ {m : Measures} {psf gray : List ℕ} {c : List ℤ} {dots : List ℕ} {
         (squareAt (pos 0) (2 * m .radius) c (pos (at .row) -ℤ pos (to .row)) (pos (at .col) -ℤ pos (to .col)))
         (sign dots (cellOf (m .width) at)) (getD table (cellOf (m .width) at) (pos 0))
         (getD table (cellOf (m .width) to) (pos 0))
-        ≡ change (targetFor m psf gray) dots (swapAt m dots at to)
+        ≡ change (targetFor m psf gray) dots (cellSwap m dots at to)
     swap-weighs unlike =
         ap₂ (λ P z. swapSum 255 P z (sign dots q) (getD table q (pos 0)) (getD table o (pos 0)))
         (j .kernel .at (pos 0) (pos 0)) between-is
@@ -205,18 +205,18 @@ countable {s} r small =
 module _ {t : Target} {dots : List ℕ} {v : Move} {delta : ℤ} (w : Weighs t dots v delta) (s : Stats) where
   -- nothing changes
   pub attempt-declined : {table : List ℤ} → table ≡ filteredErrors t dots → ltZ delta (pos 0) ≡ false
-      → Leaves t (replied (attempt t (reference dots s) v)) (result (declined delta)) dots table
+      → Leaves t (asReply (attempt t (reference dots s) v)) (result (declined delta)) dots table
   attempt-declined {table} f high =
-      attempt-cases t (reference dots s) v (λ done. Leaves t (replied done) (result (declined delta)) dots table)
+      attempt-cases t (reference dots s) v (λ done. Leaves t (asReply done) (result (declined delta)) dots table)
       (λ l. clashℤ l (subst (λ z. pos 0 ≤ℤ z) (w .delta-is) (at-least delta (pos 0) high)))
       (λ l. record { answer-is = ap (λ z. result (declined z)) (w .delta-is); dots-are = refl; table-is = f })
 
   -- the copy with its table and its ledger
   pub attempt-accepted : {s′ : Stats} {dots′ : List ℕ} {table′ : List ℤ} → ltZ delta (pos 0) ≡ true
       → Leaves t (accepting t (reference dots s) v) s′ dots′ table′
-      → Leaves t (replied (attempt t (reference dots s) v)) (result (accepted s′ delta)) dots′ table′
+      → Leaves t (asReply (attempt t (reference dots s) v)) (result (accepted s′ delta)) dots′ table′
   attempt-accepted {s′} {dots′} {table′} low left =
-      attempt-cases t (reference dots s) v (λ done. Leaves t (replied done) (result (accepted s′ delta)) dots′ table′)
+      attempt-cases t (reference dots s) v (λ done. Leaves t (asReply done) (result (accepted s′ delta)) dots′ table′)
       (λ _. record {
         answer-is = ap₂ (λ a b. result (accepted a b)) (left .answer-is) (w .delta-is);
         dots-are = left .dots-are;
@@ -227,12 +227,12 @@ module _ {t : Target} {dots : List ℕ} {v : Move} {delta : ℤ} (w : Weighs t d
 -- ---- a call that is not refused ends as the reference does
 -- its answer as a reply
 pub as-reply : {A : Type 0} {t : Target} {done : Performed A} {answer : A} {dots : List ℕ} {table : List ℤ}
-    → Leaves t done answer dots table → Leaves t (replied done) (result answer) dots table
+    → Leaves t done answer dots table → Leaves t (asReply done) (result answer) dots table
 as-reply left =
     record { answer-is = ap result (left .answer-is); dots-are = left .dots-are; table-is = left .table-is }
 
 pub leaves-ends : {A : Type 0} {t : Target} {done : Performed A} {reply : Reply A} {dots : List ℕ} {table : List ℤ}
-    {number : ℕ} (dots₀ : List ℕ) (table₀ : List ℤ) → number ≡ 0 → Leaves t (replied done) reply dots table
+    {number : ℕ} (dots₀ : List ℕ) (table₀ : List ℤ) → number ≡ 0 → Leaves t (asReply done) reply dots table
     → Ends (laterCall number t dots₀ table₀ done) reply (buffers dots table)
 unfolding laterCall
 leaves-ends {number} dots₀ table₀ taken left =

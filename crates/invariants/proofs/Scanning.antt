@@ -30,7 +30,7 @@ use Rattle.model.specs.State.{LaterFits}
 use Rattle.model.specs.Scan.{Rule, toggles, Sweep, tryEach, sweepTo, sweep, progressOf, resultOf, scan}
 use Rattle.model.proofs.Attempts.{Sound, entry-stats, attempt-by}
 use Rattle.model.proofs.Scan.{Lawful, more, try-none, try-step, sweep-later, sweep-counts}
-use Rattle.invariants.specs.Plate.{OnPlate, cellOf, Leaves, replied}
+use Rattle.invariants.specs.Plate.{OnPlate, cellOf, Leaves, asReply}
 use Rattle.invariants.specs.Trials.{advanced, sweepOf, performed, visit}
 
 -- ---- at one cell
@@ -68,12 +68,12 @@ module _ (t : Target) (dots : List ℕ) (r : Progress) (v : Move) {s : Sweep} (d
     (taken : lowers t dots v ≡ true → s ≡ more (sweepOf dots r) v)
     (passed : lowers t dots v ≡ false → s ≡ sweepOf dots r) where
   pub attempt-advances : (reply : Reply Tried) {r′ : Progress} → r′ ≡ advanced r reply
-      → Leaves t (replied (attempt t (reference dots (r .stats)) v)) reply dots′ table′
+      → Leaves t (asReply (attempt t (reference dots (r .stats)) v)) reply dots′ table′
       → Leaves t (performed t s) r′ dots′ table′
   unfolding progressOf
   attempt-advances reply {r′} is =
       attempt-by t (reference dots (r .stats)) v
-      (λ done. Leaves t (replied done) reply dots′ table′ → Leaves t (performed t s) r′ dots′ table′)
+      (λ done. Leaves t (asReply done) reply dots′ table′ → Leaves t (performed t s) r′ dots′ table′)
       (λ e left.
       subst (λ (x : Sweep). Leaves t (performed t x) r′ dots′ table′) (sym (taken e))
       (record {

@@ -43,11 +43,11 @@ cellOf width at = cellAt width (at .row) (at .col)
 
 -- the changes of such cells
 module _ (m : Measures) (dots : List ℕ) where
-  abbrev pub toggleAt : Cell → Move
-  toggleAt at = toggle dots (cellOf (m .width) at)
+  abbrev pub cellToggle : Cell → Move
+  cellToggle at = toggle dots (cellOf (m .width) at)
 
-  abbrev pub swapAt : (at to : Cell) → Move
-  swapAt at to = swap dots (cellOf (m .width) at) (cellOf (m .width) to)
+  abbrev pub cellSwap : (at to : Cell) → Move
+  cellSwap at to = swap dots (cellOf (m .width) at) (cellOf (m .width) to)
 
   -- two cells whose dots differ
   abbrev pub Unlike : (at to : Cell) → Type 0
@@ -84,5 +84,5 @@ abbrev pub accepting : Target → Reference → Move → Performed Stats
 accepting t p v = record { answer = statsOf t (accept p v); after = accept p v }
 
 -- the same as the reply of a call
-abbrev pub replied : {A : Type 0} → Performed A → Performed (Reply A)
-replied done = record { answer = result (done .answer); after = done .after }
+abbrev pub asReply : {A : Type 0} → Performed A → Performed (Reply A)
+asReply done = record { answer = result (done .answer); after = done .after }

@@ -31,7 +31,7 @@ use Rattle.model.specs.Program.{refusedText, whole, statsText, processed
 use Rattle.model.specs.ProgramPromises.{IsSheet, StartRefuses, wrongSum}
 use Rattle.model.specs.ProgramPromises.{ProgramRefuses, tooLong, unread, unstarted}
 use Rattle.model.specs.ProgramPromises.{firstDots, convergedFrom}
-use Rattle.model.specs.ProgramPromises.{Printed, Prints, Unrefused, ProgramPromises}
+use Rattle.model.specs.ProgramPromises.{Printed, PrintsSheet, Unrefused, ProgramPromises}
 use Rattle.model.proofs.Error.{squared-nonneg}
 use Rattle.model.proofs.Refusal.{first-passes, _nor_, within, alike-not, above-none}
 use Rattle.model.proofs.Start.{start-later}
@@ -280,7 +280,7 @@ module _ (input : List ℕ) where
 
   -- one of the refusals is due, or a sheet is printed
   abbrev Answer : Type 0
-  Answer = ((n : ℕ) × (o : ℕ) × ProgramRefuses input n o) ⊎ Prints input
+  Answer = ((n : ℕ) × (o : ℕ) × ProgramRefuses input n o) ⊎ PrintsSheet input
 
   answer : Answer
   answer = go (ltb 32768 (length input)) refl
@@ -341,6 +341,6 @@ module _ (input : List ℕ) where
           subst (λ k. ProgramRefuses input k o) x (subst (ProgramRefuses input k) y d)
       printed-is-due n o (inr (s, _, p)) e = absurd (refusal-no-sheet n o _ _ (sym e ∙ p .is-printed))
 
-      unrefused : Unrefused input → Answer → Prints input
+      unrefused : Unrefused input → Answer → PrintsSheet input
       unrefused f (inl (n, o, d)) = absurd (f n o d)
       unrefused f (inr p) = p

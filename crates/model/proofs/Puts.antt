@@ -3,7 +3,7 @@
 --   puts-then, puts-rest                  one text after another, and bytes after a text
 --   front-length, puts-as                 a text at the front; the same text in other words
 --   left-all, left-fits, left-next        of a text that a loop puts part by part: all of it; room for a part; after it
---   left-last, left-none                  its last part, and nothing left
+--   left-last, left-done                  its last part, and nothing left
 use mathlib.Core.Path.{_≡_, refl, sym, _∙_, ap, ap₂, subst}
 use mathlib.Core.List.{List, [], _∷_, _++_}
 use Prim.Native.Nat.{ℕ, _+_, _≤_}
@@ -78,5 +78,5 @@ module _ {text out₀ : List ℕ} {at : ℕ} where
     pub left-last : {put : List ℕ} {end : ℕ} → Puts rest out put next end → Puts text out₀ put at end
     left-last p = record { end-is = omega (arith, l .place, p .end-is); bytes-are = p .bytes-are ∙ l .bytes }
 
-    pub left-none : rest ≡ [] → Puts text out₀ out at next
-    left-none e = left-last (rw e puts-none)
+    pub left-done : rest ≡ [] → Puts text out₀ out at next
+    left-done e = left-last (rw e puts-none)

@@ -82,8 +82,8 @@ pub record Printed (input : List ℕ) (s : Sheet) : Type 0 where
   pub is-taken-again : Unrefused (sheetText (writtenSheet (s .measures) (s .psf) (s .gray) dots))
 
 -- a sheet was handed in, and is printed so
-abbrev pub Prints : List ℕ → Type 0
-Prints input = (s : Sheet) × IsSheet input s × Printed input s
+abbrev pub PrintsSheet : List ℕ → Type 0
+PrintsSheet input = (s : Sheet) × IsSheet input s × Printed input s
 
 -- ---- the promise
 pub record ProgramPromises (input : List ℕ) : Type 0 where
@@ -94,7 +94,7 @@ pub record ProgramPromises (input : List ℕ) : Type 0 where
   -- at most one is due
   pub one-refusal : (n o n′ o′ : ℕ) → ProgramRefuses input n o → ProgramRefuses input n′ o′ → (n ≡ n′) × (o ≡ o′)
   -- and a sheet is printed exactly when none is
-  pub prints-exactly : (Prints input → Unrefused input) × (Unrefused input → Prints input)
+  pub prints-exactly : (PrintsSheet input → Unrefused input) × (Unrefused input → PrintsSheet input)
   -- where one is due, what is printed does not even begin with a sheet
   pub no-sheet-when-refused : (n o : ℕ) → ProgramRefuses input n o → (s : Sheet) (rest : List ℕ)
       → output input ≡ sheetText s ++ rest → ⊥

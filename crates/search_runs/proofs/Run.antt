@@ -58,13 +58,13 @@ there-is w to k x y z h l e f =
     omega arith
 
 -- a run from the cell m on is clear at the offset of that code, its first partner standing at `to`
-pub record Clear (width m : ℕ) (dots : List ℕ) (table : List ℤ) (code : ℕ) (worth : ℤ) (n : ℕ) : Type 0 where
+pub record ClearAt (width m : ℕ) (dots : List ℕ) (table : List ℤ) (code : ℕ) (worth : ℤ) (n : ℕ) : Type 0 where
   pub to : ℕ
   pub place : to + (6 * width + 6) ≡ m + rowOf code * width + columnOf code
   pub clear : SwapsClear dots table worth m to n
 
 pub offset-clear : (width : ℕ) {dots : List ℕ} {table : List ℤ} (code : ℕ) {worth : ℤ} (row col : ℕ) {n : ℕ}
-    → Clear width (cellAt width row col) dots table code worth n → OffsetClear width dots table code worth row col n
+    → ClearAt width (cellAt width row col) dots table code worth n → OffsetClear width dots table code worth row col n
 offset-clear width code row col s =
     let rows = add-mul row (rowOf code) width in
     let e = s .place in

@@ -4,8 +4,8 @@ ghost use Prim.Native.Nat.{_^_, _<_};
 ghost use Rattle.model.specs.Error.{targetFor};
 ghost use Rattle.model.specs.Reference.{reference, attempt};
 ghost use Rattle.model.specs.Calls.{attempted};
-ghost use Rattle.invariants.specs.Plate.{Judged, Ready, OnPlate, toggleAt, swapAt, Unlike};
-ghost use Rattle.invariants.specs.Plate.{Weighs, Leaves, accepting, replied};
+ghost use Rattle.invariants.specs.Plate.{Judged, Ready, OnPlate, cellToggle, cellSwap, Unlike};
+ghost use Rattle.invariants.specs.Plate.{Weighs, Leaves, accepting, asReply};
 ghost use Rattle.invariants.specs.Trials.{advanced};
 use model::Attempt;
 use model::Cell;
@@ -34,7 +34,7 @@ fn weigh_toggle(
 ) -> i64
     requires { ⌜ Judged measures (now psf) (now gray) (now c) (now dots) (now table) × OnPlate measures at ⌝ }
     ensures { λ r. ⌜ Weighs (targetFor measures (now (psf .entry)) (now (gray .entry))) (now (dots .entry))
-        (toggleAt measures (now (dots .entry)) at) r ⌝ }
+        (cellToggle measures (now (dots .entry)) at) r ⌝ }
 {
     toggle_change(
         peak(measures.radius, c),
@@ -58,7 +58,7 @@ fn weigh_swap(
     requires { ⌜ Judged measures (now psf) (now gray) (now c) (now dots) (now table) ⌝ }
     requires { ⌜ OnPlate measures at × OnPlate measures to × Unlike measures (now dots) at to ⌝ }
     ensures { λ r. ⌜ Weighs (targetFor measures (now (psf .entry)) (now (gray .entry))) (now (dots .entry))
-        (swapAt measures (now (dots .entry)) at to) r ⌝ }
+        (cellSwap measures (now (dots .entry)) at to) r ⌝ }
 {
     let m = index(measures.width, at);
     let n = index(measures.width, to);
@@ -79,9 +79,9 @@ fn make_toggle(
     delta: i64,
 ) -> Stats
     requires { ⌜ Ready measures (now psf) (now gray) (now c) (now dots) (now table) stats × OnPlate measures at ⌝ }
-    requires { ⌜ Weighs (targetFor measures (now psf) (now gray)) (now dots) (toggleAt measures (now dots) at) delta ⌝ }
+    requires { ⌜ Weighs (targetFor measures (now psf) (now gray)) (now dots) (cellToggle measures (now dots) at) delta ⌝ }
     ensures { λ r. ⌜ (let t = targetFor measures (now (psf .entry)) (now (gray .entry)) in
-        Leaves t (accepting t (reference (now (dots .entry)) stats) (toggleAt measures (now (dots .entry)) at))
+        Leaves t (accepting t (reference (now (dots .entry)) stats) (cellToggle measures (now (dots .entry)) at))
         r (now (dots .exit)) (now (table .exit))) ⌝ }
 {
     let dot = dots[index(measures.width, at)];
@@ -104,9 +104,9 @@ fn make_swap(
 ) -> Stats
     requires { ⌜ Ready measures (now psf) (now gray) (now c) (now dots) (now table) stats ⌝ }
     requires { ⌜ OnPlate measures at × OnPlate measures to ⌝ }
-    requires { ⌜ Weighs (targetFor measures (now psf) (now gray)) (now dots) (swapAt measures (now dots) at to) delta ⌝ }
+    requires { ⌜ Weighs (targetFor measures (now psf) (now gray)) (now dots) (cellSwap measures (now dots) at to) delta ⌝ }
     ensures { λ r. ⌜ (let t = targetFor measures (now (psf .entry)) (now (gray .entry)) in
-        Leaves t (accepting t (reference (now (dots .entry)) stats) (swapAt measures (now (dots .entry)) at to))
+        Leaves t (accepting t (reference (now (dots .entry)) stats) (cellSwap measures (now (dots .entry)) at to))
         r (now (dots .exit)) (now (table .exit))) ⌝ }
 {
     let here = dots[index(measures.width, at)];
@@ -129,7 +129,7 @@ pub fn toggle(
 ) -> Attempt
     requires { ⌜ Ready measures (now psf) (now gray) (now c) (now dots) (now table) stats × OnPlate measures at ⌝ }
     ensures { λ r. ⌜ (let t = targetFor measures (now (psf .entry)) (now (gray .entry)) in
-        Leaves t (replied (attempt t (reference (now (dots .entry)) stats) (toggleAt measures (now (dots .entry)) at)))
+        Leaves t (asReply (attempt t (reference (now (dots .entry)) stats) (cellToggle measures (now (dots .entry)) at)))
         (attempted r) (now (dots .exit)) (now (table .exit))) ⌝ }
 {
     let delta = weigh_toggle(measures, psf, gray, c, dots, table, at);
@@ -155,7 +155,7 @@ pub fn swap(
     requires { ⌜ Ready measures (now psf) (now gray) (now c) (now dots) (now table) stats ⌝ }
     requires { ⌜ OnPlate measures at × OnPlate measures to × Unlike measures (now dots) at to ⌝ }
     ensures { λ r. ⌜ (let t = targetFor measures (now (psf .entry)) (now (gray .entry)) in
-        Leaves t (replied (attempt t (reference (now (dots .entry)) stats) (swapAt measures (now (dots .entry)) at to)))
+        Leaves t (asReply (attempt t (reference (now (dots .entry)) stats) (cellSwap measures (now (dots .entry)) at to)))
         (attempted r) (now (dots .exit)) (now (table .exit))) ⌝ }
 {
     let delta = weigh_swap(measures, psf, gray, c, dots, table, at, to);

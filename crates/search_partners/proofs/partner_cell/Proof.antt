@@ -1,6 +1,6 @@
 -- `search_partners::partner_cell` meets its contract: a row or a column above 6 less wraps past the plate, so each early
 -- return is two of its edges.
-use mathlib.Core.Logic.{_⊎_, inl, inr}
+use mathlib.Core.Logic.{_⊎_, inl, inr, ⊎-elim}
 use mathlib.Core.Path.{_≡_, _∙_, ap₂}
 use Prim.Native.Nat.{ℕ, _+_, _-_, _^_, _%_, _≤_, _<_}
 use native.Mathlib.Decide.{decLt}
@@ -24,10 +24,6 @@ less-off r a limit e h l = go (decLt a 6)
     go (yes k) = inl k
     go (no k) = inr (omega arith)
 
-either : {A B C : Type 0} → A ⊎ B → (A → C) → (B → C) → C
-either (inl a) f g = f a
-either (inr b) f g = g b
-
 mul-cells : tie.Need-mul-cells
 mul-cells c = factors-fit 256 256 (c .pre .3) (c .pre .2) tt
 
@@ -46,9 +42,10 @@ returns c =
     let less : tie.After-wrapping-sub-usize = search in
     let a = s .args in
     let y = less .wrapping-sub-usize in
-    either (less-off (y .result) _ (a .height) (y .ensures) (omega (arith, y .ok)) (c .if1 .taken))
+    ⊎-elim
     (off-top (a .width) (a .height) (a .at .row) (a .at .col) (s .pre .1) (rowOf (a .code)) (columnOf (a .code)))
     (off-bottom (a .width) (a .height) (a .at .row) (a .at .col) (s .pre .1) (rowOf (a .code)) (columnOf (a .code)))
+    (less-off (y .result) _ (a .height) (y .ensures) (omega (arith, y .ok)) (c .if1 .taken))
 
 cast-wrapping-sub-usize-2 : tie.Need-cast-wrapping-sub-usize-2
 cast-wrapping-sub-usize-2 c = search needs
@@ -65,9 +62,10 @@ returns-2 c =
     let less : tie.After-wrapping-sub-usize2 = search in
     let a = s .args in
     let x = less .wrapping-sub-usize2 in
-    either (less-off (x .result) _ (a .width) (x .ensures) (omega (arith, x .ok)) (omega (arith, c .if2 .taken, s .pre .2)))
+    ⊎-elim
     (off-left (a .width) (a .height) (a .at .row) (a .at .col) (s .pre .1) (rowOf (a .code)) (columnOf (a .code)))
     (off-right (a .width) (a .height) (a .at .row) (a .at .col) (s .pre .1) (rowOf (a .code)) (columnOf (a .code)))
+    (less-off (x .result) _ (a .width) (x .ensures) (omega (arith, x .ok)) (omega (arith, c .if2 .taken, s .pre .2)))
 
 index-requires : tie.Need-index-requires
 index-requires c κs =

@@ -10,13 +10,13 @@ use lib.ListN.{length, getD}
 use Rattle.algebra.proofs.Machine.{size-of, factors-fit}
 use Rattle.invariants.specs.Partners.{rowOf, columnOf}
 use Rattle.model.specs.Error.{cellAt}
-use Rattle.search_runs.proofs.Run.{worth-held, Clear, offset-clear}
+use Rattle.search_runs.proofs.Run.{worth-held, ClearAt, offset-clear}
 use Rattle.search_runs.proofs.swaps_clear.Statement.{statement}
 use Rattle.search_runs.proofs.swaps_clear.Tie as tie
 
 abbrev Inv-loop : tie.InvT-loop
 Inv-loop width codes worths dots table n m back j₀ j =
-    ((i : ℕ) → j ≤ i → i < length codes → Clear width m dots table (getD codes i 0) (getD worths i (pos 0)) n)
+    ((i : ℕ) → j ≤ i → i < length codes → ClearAt width m dots table (getD codes i 0) (getD worths i (pos 0)) n)
     × (j ≤ length codes)
 
 abbrev μ-loop : tie.MeasureT-loop

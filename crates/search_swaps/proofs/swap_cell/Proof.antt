@@ -13,7 +13,7 @@ use Rattle.model.specs.Partners.{lands, partner}
 use Rattle.model.specs.Scan.{suits}
 use Rattle.model.proofs.Attempts.{entry-stats}
 use Rattle.invariants.specs.Partners.{rowOf, columnOf, offsetOf, HoldsOffsets}
-use Rattle.invariants.specs.Plate.{OnPlate, cellOf, Unlike, swapAt}
+use Rattle.invariants.specs.Plate.{OnPlate, cellOf, Unlike, cellSwap}
 use Rattle.invariants.specs.Trials.{sweepOf, visit, lowersAt}
 use Rattle.invariants.proofs.Loop.{left-none}
 use Rattle.invariants.proofs.Plate.{ready-judged}
@@ -94,7 +94,7 @@ module _ (a : tie.Else1) where
   inside = landed _ _ row col (on start .col-below) (rowOf (code start)) (columnOf (code start)) lands-there .0
 
   -- the swap with it lowers E
-  lower : lowers (target start) (start .args .dots .now) (swapAt (start .args .measures) (start .args .dots .now)
+  lower : lowers (target start) (start .args .dots .now) (cellSwap (start .args .measures) (start .args .dots .now)
       (start .args .at) to) ≡ true
   lower =
       ap (λ k. lowers (target start) (start .args .dots .now) (swap (start .args .dots .now) (m start) k))
@@ -157,7 +157,7 @@ returns-2 c =
     swap-taken (target (start a)) (g .measures .reach) (g .dots .now) (g .progress) (m (start a)) found
     (subst (λ n. found < n) (held (start a) .long) (short a)) (held (start a) .at found (short a)) (took a)
     (stands _ _ _ _ (on (start a) .col-below) (rowOf (code (start a))) (columnOf (code (start a))) (lands-there a)) in
-    attempt-advances (target (start a)) (g .dots .now) (g .progress) (swapAt (g .measures) (g .dots .now) (g .at) (to a))
+    attempt-advances (target (start a)) (g .dots .now) (g .progress) (cellSwap (g .measures) (g .dots .now) (g .at) (to a))
     _ _ (entry-stats _ _ _ _ _ _ (start a .pre .0 .later)) (λ e. taken) (λ e. absurd (true≢false (sym (lower a) ∙ e))) _
     (c .advance .ensures) (tried .swap .ensures)
 

@@ -2,7 +2,7 @@
 use borrow.Author.Needs.{needs}
 use Rattle.model.specs.Error.{targetFor}
 use Rattle.model.proofs.Attempts.{entry-stats}
-use Rattle.invariants.specs.Plate.{cellOf, toggleAt}
+use Rattle.invariants.specs.Plate.{cellOf, cellToggle}
 use Rattle.invariants.proofs.Scanning.{toggle-declined, toggle-accepted, attempt-advances}
 use Rattle.search_toggles.proofs.toggle_cell.Statement.{statement}
 use Rattle.search_toggles.proofs.toggle_cell.Tie as tie
@@ -26,7 +26,7 @@ returns c =
     let a = s .args in
     let t = targetFor (a .measures) (a .psf .now) (a .gray .now) in
     let n = cellOf (a .measures .width) (a .at) in
-    attempt-advances t (a .dots .now) (a .progress) (toggleAt (a .measures) (a .dots .now) (a .at)) _ _
+    attempt-advances t (a .dots .now) (a .progress) (cellToggle (a .measures) (a .dots .now) (a .at)) _ _
     (entry-stats _ _ _ _ _ _ (s .pre .0 .later)) (toggle-accepted t (a .dots .now) (a .progress) n)
     (toggle-declined t (a .dots .now) (a .progress) n) _ (c .advance .ensures) (tried .toggle .ensures)
 

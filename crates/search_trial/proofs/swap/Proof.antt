@@ -7,7 +7,7 @@ use mir.Val.{toZ, ofZ}
 use Rattle.algebra.proofs.Machine.{read-back}
 use Rattle.model.specs.Change.{Move}
 use Rattle.model.specs.Error.{Target, targetFor}
-use Rattle.invariants.specs.Plate.{swapAt, Weighs}
+use Rattle.invariants.specs.Plate.{cellSwap, Weighs}
 use Rattle.invariants.proofs.Plate.{ready-judged, attempt-declined, attempt-accepted}
 use Rattle.search_trial.proofs.swap.Statement.{statement}
 use Rattle.search_trial.proofs.swap.Tie as tie
@@ -24,7 +24,7 @@ module _ (w : tie.After-weigh-swap) where
   t = targetFor (s .args .measures) (s .args .psf .now) (s .args .gray .now)
 
   abbrev v : Move
-  v = swapAt (s .args .measures) (s .args .dots .now) (s .args .at) (s .args .to)
+  v = cellSwap (s .args .measures) (s .args .dots .now) (s .args .at) (s .args .to)
 
   abbrev delta : ℤ
   delta = toZ w64 (ofZ w64 (w .weigh-swap .result))

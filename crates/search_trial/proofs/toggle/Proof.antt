@@ -7,7 +7,7 @@ use mir.Val.{toZ, ofZ}
 use Rattle.algebra.proofs.Machine.{read-back}
 use Rattle.model.specs.Change.{Move}
 use Rattle.model.specs.Error.{Target, targetFor}
-use Rattle.invariants.specs.Plate.{toggleAt, Weighs}
+use Rattle.invariants.specs.Plate.{cellToggle, Weighs}
 use Rattle.invariants.proofs.Plate.{ready-judged, attempt-declined, attempt-accepted}
 use Rattle.search_trial.proofs.toggle.Statement.{statement}
 use Rattle.search_trial.proofs.toggle.Tie as tie
@@ -24,7 +24,7 @@ module _ (w : tie.After-weigh-toggle) where
   t = targetFor (s .args .measures) (s .args .psf .now) (s .args .gray .now)
 
   abbrev v : Move
-  v = toggleAt (s .args .measures) (s .args .dots .now) (s .args .at)
+  v = cellToggle (s .args .measures) (s .args .dots .now) (s .args .at)
 
   abbrev delta : ℤ
   delta = toZ w64 (ofZ w64 (w .weigh-toggle .result))

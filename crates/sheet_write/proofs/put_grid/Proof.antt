@@ -5,7 +5,7 @@ use native.Mathlib.Omega.{arith}
 use borrow.Author.Needs.{needs}
 use lib.ListN.{length, drop, getD, drop-of-length-le}
 use Rattle.model.specs.Sheet.{endOf, gridText}
-use Rattle.model.proofs.Puts.{Left, left-all, left-fits, left-next, left-none}
+use Rattle.model.proofs.Puts.{Left, left-all, left-fits, left-next, left-done}
 use Rattle.sheet_write.proofs.Parts.{field, field-length, grid-next}
 use Rattle.sheet_write.proofs.put_grid.Statement.{statement}
 use Rattle.sheet_write.proofs.put_grid.Tie as tie
@@ -66,7 +66,7 @@ returns c =
     let s : tie.Start Inv-loop μ-loop = search in
     let l : tie.At-loop Inv-loop μ-loop = search in
     let none = drop-of-length-le (s .args .values .now) (c .loop-test .left) in
-    left-none (l .loop .inv .1) (ap (gridText (s .args .w) (l .loop .i)) none)
+    left-done (l .loop .inv .1) (ap (gridText (s .args .w) (l .loop .i)) none)
 
 pub put-grid-spec : {M : Type 1} → statement M
 put-grid-spec =

@@ -4,7 +4,7 @@ use native.Mathlib.Nat.{add-zero, add-assoc}
 use native.Mathlib.Omega.{arith}
 use borrow.Author.Needs.{needs}
 use lib.ListN.{length, drop, drop-of-length-le}
-use Rattle.model.proofs.Puts.{Left, left-all, left-next, left-none, puts-byte}
+use Rattle.model.proofs.Puts.{Left, left-all, left-next, left-done, puts-byte}
 use Rattle.slices.proofs.Bytes.{byte-next}
 use Rattle.slices.proofs.put_bytes.Statement.{statement}
 use Rattle.slices.proofs.put_bytes.Tie as tie
@@ -50,7 +50,7 @@ same-length c = search needs
 returns : tie.Need-returns Inv-loop μ-loop
 returns c =
     let l : tie.At-loop Inv-loop μ-loop = search in
-    left-none (l .loop .inv .1) (drop-of-length-le (l .before .args .bytes .now) (c .loop-test .left))
+    left-done (l .loop .inv .1) (drop-of-length-le (l .before .args .bytes .now) (c .loop-test .left))
 
 pub put-bytes-spec : {M : Type 1} → statement M
 put-bytes-spec =
