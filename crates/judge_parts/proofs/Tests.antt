@@ -21,7 +21,8 @@ use Rattle.model.specs.Error.{mostCells}
 use Rattle.model.specs.Refusal.{Refusal, firstOf, differs, above, badSize, badRadius, badReach, badKind, badLength}
 use Rattle.model.specs.Refusal.{badMeasures}
 use Rattle.model.specs.declared.Measures.{Measures}
-use Rattle.model.proofs.Refusal.{numbered, none, neither, size-inside}
+use Rattle.model.proofs.Basic.{neither}
+use Rattle.model.proofs.Refusal.{numbered, none, size-inside}
 
 module _ (l : List ℕ) (i : ℕ) (h : i < length l) where
   pub above-here : (k : ℕ) → k < getD l i 0 → above k (drop i l) ≡ true

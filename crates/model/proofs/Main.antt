@@ -30,7 +30,8 @@ use Rattle.model.proofs.Longest.{sheet-most, writing-is-long, filed-mos
 use Rattle.model.proofs.Interface.{counted, not-counted, measures-draw, ledger-draws}
 use Rattle.model.proofs.Interface.{start-over, call-over, over-other-count, call-over-other-count}
 use Rattle.model.proofs.Interface.{toggle-is-told, swap-is-told, measures-read, stored-read, run-over}
-use Rattle.model.proofs.Examples.{examples, one-sided}
+use Rattle.model.proofs.Examples.{examples, one-sided, of-unlocked}
+use Rattle.model.proofs.Screen.{ordered-locks}
 
 pub promises : Promises
 unfolding change toggleSum swapSum
@@ -59,7 +60,10 @@ promises =
         toggle-tries = toggle-tries m psf gray dots table s;
         swap-tries = swap-tries m psf gray dots table s;
       };
-      start-promises = λ m psf gray. record { start-begins = start-begins m psf gray };
+      start-promises = λ m psf gray. record {
+        start-begins = start-begins m psf gray;
+        ordered-start-respects-locks = ordered-locks m psf gray;
+      };
       scan-promises = record {
         partners-are-ordered = offsets-ordered;
         convergence-keeps-to-rule = converge-rule;
@@ -136,4 +140,5 @@ promises =
       };
       examples-hold = examples;
       half-peak-is-one-sided = one-sided;
+      rest-is-of-unlocked-cells = of-unlocked;
     }

@@ -20,6 +20,7 @@ use Rattle.model.specs.Basic.{AtMost, All}
 use Rattle.model.specs.Psf.{total, autocorrelation, peak}
 use Rattle.model.specs.Error.{Target, targetOf, targetFor, cellAt, cells, kernel, Halftone}
 use Rattle.model.specs.Error.{filteredError, filteredErrors, squaredError, perceivedSquares}
+use Rattle.model.specs.Lock.{LocksHold}
 use Rattle.model.specs.Refusal.{firstOf, badMeasures, halftoneRefusal, writeRefusal}
 use Rattle.model.specs.Ledger.{changes, ledgerDots, fallOf, dotTotal, counted}
 use Rattle.model.specs.State.{badTable, badStats, StateFits, laterRefusal}
@@ -43,7 +44,7 @@ use Rattle.model.specs.FiledPromises.{FiledPromises}
 use Rattle.model.specs.Interface.{measuresSize, measuresIn, statsSize, statsNumbers, statsIn, sliceRefusal}
 use Rattle.model.specs.Interface.{startOver, toggleOver, swapOver, readOver, writeOver, Told, longestSheet}
 use Rattle.model.specs.Interface.{Slices, slicesOf, heldIn, callOver, runOver}
-use Rattle.model.specs.Examples.{Examples, OneSided}
+use Rattle.model.specs.Examples.{Examples, OneSided, OfUnlocked}
 
 -- ---- Plate, spread and peak: of any psf
 module _ (r : ℕ) (psf : List ℕ) where
@@ -133,7 +134,7 @@ module _ (m : Measures) (psf gray dots : List ℕ) (table : List ℤ) (s : Stats
     pub answer-is-reference : answer ≡ attempt (targetFor m psf gray) (reference dots s) v .answer
     pub dots-are-reference : left .dots ≡ attempt (targetFor m psf gray) (reference dots s) v .after .dots
     pub weighed : Weighed v left answer
-    -- no later call refuses what is left: neither 1 to 7 nor 20 nor 21 is drawn
+    -- no later call refuses what is left: neither 1 to 7 nor 16, 20 or 21 is drawn
     pub is-accepted : laterRefusal m psf gray (left .dots) (left .table) (latest s (result (tried answer))) ≡ 0
 
   pub record AttemptPromises : Type 0 where
@@ -160,13 +161,18 @@ module _ (m : Measures) (psf gray : List ℕ) where
     pub counts-are-0 : (s .figures .on ≡ 0) × (s .figures .off ≡ 0) × (s .figures .swaps ≡ 0)
     -- the table is that of the dots left
     pub table-is-fresh : left .table ≡ filteredErrors (targetFor m psf gray) (left .dots)
-    -- what is left is what later calls accept: neither 1 to 7 nor 20 nor 21 is drawn
+    -- every locked cell holds its byte
+    pub locked-cells-are-set : LocksHold (targetFor m psf gray) (left .dots)
+    -- what is left is what later calls accept: neither 1 to 7 nor 16, 20 or 21 is drawn
     pub is-accepted : laterRefusal m psf gray (left .dots) (left .table) s ≡ 0
 
   pub record StartPromises : Type 0 where
     pub start-begins : (dots : List ℕ) (table : List ℤ) (s : Stats) → AtMost 255 gray
         → startCall m psf gray dots table .reply ≡ result s
         → Begun (startCall m psf gray dots table .left) s
+    -- kind 1 sets the locked cells by the thresholds alone, whatever the gray
+    pub ordered-start-respects-locks : (dots : List ℕ) → m .start ≡ 1
+        → LocksHold (targetFor m psf gray) (startDots m gray dots)
 
 -- ---- Scans and settling, of any target and step
 pub record ScanPromises : Type 0 where
@@ -190,8 +196,8 @@ module _ (m : Measures) (psf gray : List ℕ) where
     -- it is not refused
     pub answer : ConvergeResult
     pub is-answered : o .reply ≡ result (rested answer)
-    -- it ends at rest: no toggle lowers E, no swap within reach lowers E, twice the table is at most 255 × P under
-    -- every dot and at least -255 × P under every blank
+    -- it ends at rest: of the cells that are not locked, no toggle lowers E, no swap within reach lowers E, twice the
+    -- table is at most 255 × P under every dot and at least -255 × P under every blank
     pub is-at-rest : Rest (targetFor m psf gray) (m .reach) (o .left .dots) (o .left .table)
     -- its scans are at most 2 × its accepted changes + 2
     pub scans-are-few : (let after = referenceCall m psf gray before convergence .left in
@@ -218,6 +224,8 @@ module _ (m : Measures) (psf gray : List ℕ) where
       pub error-is-fresh : left .stats .error ≡ squaredError (targetFor m psf gray) (left .dots)
       -- a dot byte for each cell, 0 or 1
       pub dots-are-bits : (length (left .dots) ≡ m .height * m .width) × AtMost 1 (left .dots)
+      -- every locked cell holds its byte
+      pub locked-cells-are-untouched : LocksHold (targetFor m psf gray) (left .dots)
       -- E at the start and the dots at the start stay those of the first dots
       pub start-error-is-kept : left .stats .figures .«start_error» ≡ squaredError (targetFor m psf gray) first
       pub start-dots-are-kept : left .stats .figures .«start_dots» ≡ dotTotal first
@@ -225,7 +233,7 @@ module _ (m : Measures) (psf gray : List ℕ) where
       pub dots-are-reference : left .dots ≡ reached .dots
       pub stats-are-reference : left .stats ≡ statsOf (targetFor m psf gray) reached
       pub answers-are-reference : answers ≡ referenceAnswers
-      -- the only refusals are 8, 9 and 22
+      -- the only refusals are 8, 9, 23 and 22
       pub refusals-are-expected : All Expected answers
       -- dot total = first + on - off
       pub dots-are-balanced : pos (dotTotal (left .dots)) ≡ ledgerDots (left .stats .figures)
@@ -243,7 +251,7 @@ module _ (m : Measures) (psf gray : List ℕ) where
         → (l : List Call)
         → (let begun = startCall m psf gray dots table .left in
         Demand3 (startDots m gray dots) (record { dots = begun .dots; table = begun .table; stats = s }) l)
-    -- handed on as left, nothing draws 20 or 21, nor 1 to 7: from whatever a later call accepts, and whatever the call
+    -- handed on as left, nothing draws 20 or 21, nor 1 to 7 or 16: from whatever a later call accepts, and whatever the call
     pub left-is-accepted : (h : Held) (c : Call) → laterRefusal m psf gray (h .dots) (h .table) (h .stats) ≡ 0
         → (let h′ = handOn h (call m psf gray h c) in laterRefusal m psf gray (h′ .dots) (h′ .table) (h′ .stats) ≡ 0)
 
@@ -391,3 +399,5 @@ pub record Promises : Type 0 where
   pub examples-hold : Examples
   -- the half-peak bound is one-sided: plates at rest, at every reach, break its other side
   pub half-peak-is-one-sided : OneSided
+  -- rest is of unlocked cells: a plate at rest, at every reach, breaks each part of it at a locked cell
+  pub rest-is-of-unlocked-cells : OfUnlocked
