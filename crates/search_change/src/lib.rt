@@ -8,9 +8,10 @@ ghost use lib.Signed.{ltZ};
 ghost use Rattle.model.specs.Basic.{squareAt};
 ghost use Rattle.model.specs.Change.{signOf, sign, toggleSum, swapSum};
 ghost use Rattle.invariants.specs.Plate.{mostChange};
-ghost use Rattle.invariants.specs.Trials.{lowersBy};
+ghost use Rattle.invariants.specs.Trials.{lowersBy, takesBy};
 ghost use Rattle.invariants.specs.Window.{Small, HoldsSquare, mostKernel, mostWorth};
 use model::Cell;
+use slices::is_locked;
 ghost use Rattle.model.specs.Error.{mostFiltered};
 
 // a value times s of a cell whose dot byte is `dot`
@@ -92,13 +93,28 @@ pub fn swap_change(peak: i32, apart: i32, dots: &[u8], table: &[i32], m: usize, 
 
 // whether m and n have unlike dots and their swap lowers the squared error; `worth` is 255 × (P - c(m - n)). The sum is
 // tested first: it seldom is below 0, while dots are as often unlike as alike.
-pub fn lower_swap(dots: &[u8], table: &[i32], m: usize, n: usize, worth: i32) -> bool
+fn lower_swap(dots: &[u8], table: &[i32], m: usize, n: usize, worth: i32) -> bool
     requires { ⌜ (m < length (now dots)) × (n < length (now dots)) × (length (now table) ≡ length (now dots)) ⌝ }
     requires { ⌜ Small mostFiltered (now table) × (natAbs worth ≤ mostWorth) ⌝ }
     ensures { λ r. ⌜ r ≡ lowersBy (now (dots .entry)) (now (table .entry)) m n worth ⌝ }
 {
     if difference(dots, table, m, n) + worth < 0 {
         return dots[m] != dots[n];
+    }
+    false
+}
+
+// the same where neither cell is locked, which is tested last, since the sum is seldom below 0
+pub fn takes_swap(gray: &[u8], dots: &[u8], table: &[i32], m: usize, n: usize, worth: i32) -> bool
+    requires { ⌜ (m < length (now dots)) × (n < length (now dots)) × (length (now table) ≡ length (now dots)) ⌝ }
+    requires { ⌜ (length (now gray) ≡ length (now dots)) × Small mostFiltered (now table) × (natAbs worth ≤ mostWorth) ⌝ }
+    ensures { λ r. ⌜ r ≡ takesBy (now (gray .entry)) (now (dots .entry)) (now (table .entry)) m n worth ⌝ }
+{
+    if lower_swap(dots, table, m, n, worth) {
+        if is_locked(gray[m]) {
+            return false;
+        }
+        return !is_locked(gray[n]);
     }
     false
 }
