@@ -3,7 +3,8 @@
 --   offset-near    the offsets that the code holds are within reach
 --   none-lowers    of one cell, in the rows around it
 --   run-failed     of a run of cells: every trial at each of them fails
-use mathlib.Core.Bool.{Bool, true, false}
+--   run-locked     of a run of locked cells
+use mathlib.Core.Bool.{Bool, true, false, _&&_}
 use mathlib.Core.List.{List, [], _∷_}
 use mathlib.Core.Path.{_≡_, refl, sym, _∙_, subst}
 use Prim.Native.Nat.{ℕ, _+_, _*_, _-_, _≤_, _<_}
@@ -16,9 +17,11 @@ use Rattle.algebra.proofs.Order.{read≡}
 use Rattle.algebra.proofs.Solver.{reify}
 use Rattle.model.specs.declared.Cell.{Cell}
 use Rattle.model.specs.declared.Measures.{Measures}
-use Rattle.model.specs.Error.{targetFor, cellAt}
-use Rattle.model.specs.Partners.{lands, Within}
-use Rattle.invariants.specs.Partners.{biased, rowOf, columnOf, worthAt, HoldsOffsets, HoldsWorths}
+use Rattle.model.specs.Change.{swap, lowers}
+use Rattle.model.specs.Error.{Target, targetFor, cellAt}
+use Rattle.model.specs.Lock.{locked}
+use Rattle.model.specs.Partners.{Offset, lands, partner, Within}
+use Rattle.invariants.specs.Partners.{offsetOf, biased, rowOf, columnOf, worthAt, HoldsOffsets, HoldsWorths}
 use Rattle.invariants.specs.Plate.{Judged, OnPlate, cellOf}
 use Rattle.invariants.specs.Trials.{lowersAt, Failed}
 use Rattle.invariants.proofs.Plate.{judged-small}
@@ -26,7 +29,7 @@ use Rattle.invariants.proofs.Trials.{failed-all}
 use Rattle.model.proofs.Partners.{entry-within}
 use Rattle.search_prune.specs.Grid.{rowLength, worthIn, GridFits, RowsClear}
 use Rattle.search_prune.proofs.Grid.{row-length-fits}
-use Rattle.search_runs.specs.Run.{Tabled, Fails, CellsClear}
+use Rattle.search_runs.specs.Run.{Tabled, Fails, CellsClear, RunLocked}
 use Rattle.search_swaps.proofs.Partner.{landed, stands, trial-is}
 
 -- the table of a judged plate is what a quick test asks for
@@ -80,7 +83,7 @@ module _ {m : Measures} {psf gray : List ℕ} {c : List ℤ} {dots : List ℕ} {
   -- where the trial by the table fails if the partner lands
   by-table : (down right : ℕ)
       → (6 ≤ at .row + down → 6 ≤ at .col + right → at .row + down - 6 < m .height
-      → Fails dots table (cellOf (m .width) at) (cellAt (m .width) (at .row + down - 6) (at .col + right - 6))
+      → Fails gray dots table (cellOf (m .width) at) (cellAt (m .width) (at .row + down - 6) (at .col + right - 6))
       (worthAt (m .radius) c down right))
       → Missed down right
   by-table down right fails = go (lands (m .width) (m .height) (cellOf (m .width) at) (biased down right)) refl
@@ -96,7 +99,7 @@ module _ {m : Measures} {psf gray : List ℕ} {c : List ℤ} {dots : List ℕ} {
 
   -- in rows where every trial fails
   pub none-lowers : {reach : ℕ} {grid : List ℤ} → GridFits (m .radius) c reach grid
-      → RowsClear (m .width) (m .height) reach dots table grid (at .row) (at .col) → (down right : ℕ)
+      → RowsClear (m .width) (m .height) reach gray dots table grid (at .row) (at .col) → (down right : ℕ)
       → (6 ≤ down + reach) × (down ≤ 6 + reach) → (6 ≤ right + reach) × (right ≤ 6 + reach)
       → lowersAt (targetFor m psf gray) dots (cellOf (m .width) at) (biased down right) ≡ false
   none-lowers {reach} {grid} g clear down right y x =
@@ -111,7 +114,7 @@ module _ {m : Measures} {psf gray : List ℕ} {c : List ℤ} {dots : List ℕ} {
 pub run-failed : {m : Measures} {psf gray : List ℕ} {c : List ℤ} {dots : List ℕ} {table : List ℤ}
     → Judged m psf gray c dots table → {at : Cell} → OnPlate m at → {reach : ℕ} {codes : List ℕ} {worths : List ℤ}
     → HoldsOffsets reach codes → HoldsWorths (m .radius) c codes worths → {run : ℕ} → at .col + run ≤ m .width
-    → CellsClear (m .width) dots table codes worths (at .row) (at .col) run
+    → CellsClear (m .width) gray dots table codes worths (at .row) (at .col) run
     → (i : ℕ) → i < run → Failed (targetFor m psf gray) reach dots (cellOf (m .width) at + i) (length codes)
 run-failed {m} {psf} {gray} {dots} j {at} on {reach} {codes} held worth short clear i l =
     subst (λ q. Failed (targetFor m psf gray) reach dots q (length codes)) (sym there)
@@ -122,3 +125,17 @@ run-failed {m} {psf} {gray} {dots} j {at} on {reach} {codes} held worth short cl
   where
     there : cellOf (m .width) at + i ≡ cellAt (m .width) (at .row) (at .col + i)
     there = omega arith
+
+-- ---- nor at any locked cell
+locked-fails : (t : Target) (dots : List ℕ) (m : ℕ) (o : Offset) → locked (t .gray) m ≡ true → lowersAt t dots m o ≡ false
+locked-fails t dots m o e = rw e (go (lands (t .width) (t .height) m o))
+  where
+    go : (b : Bool) → (b && false) && lowers t dots (swap dots m (partner (t .width) m o)) ≡ false
+    go true = refl
+    go false = refl
+
+pub run-locked : (t : Target) {reach : ℕ} {codes : List ℕ} → HoldsOffsets reach codes → (dots : List ℕ) {from n : ℕ}
+    → RunLocked (t .gray) from n → (i : ℕ) → i < n → Failed t reach dots (from + i) (length codes)
+run-locked t {codes} held dots {from} run i h =
+    failed-all t held dots (from + i) (λ k l.
+    locked-fails t dots (from + i) (offsetOf (getD codes k 0)) (run .each i h))

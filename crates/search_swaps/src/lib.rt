@@ -1,5 +1,5 @@
-// A swap scan of a judged plate whose kernel is c. A trial is decided by the table in a few operations, and cells where no
-// partner can lower the squared error are passed over.
+// A swap scan of a judged plate whose kernel is c. A trial is decided by the table in a few operations; locked cells, and
+// cells where no partner can lower the squared error, are passed over.
 ghost use mathlib.Core.Bool.{true};
 ghost use mathlib.Core.Path.{_≡_};
 ghost use Prim.Native.Nat.{ℕ, _+_, _^_, _≤_, _<_};
@@ -15,7 +15,7 @@ use model::Cell;
 use model::Measures;
 use model::Progress;
 use model::Stats;
-use search_change::lower_swap;
+use search_change::takes_swap;
 use search_offsets::within_reach;
 use search_partners::ahead;
 use search_partners::next;
@@ -24,6 +24,7 @@ use search_partners::weigh_offsets;
 use search_prune::grid_size;
 use search_prune::lay_worths;
 use search_prune::may_lower;
+use search_runs::locked_run;
 use search_runs::swaps_clear;
 use search_toggles::run_end;
 use search_trial::advance;
@@ -54,12 +55,12 @@ fn lowering(
     if table.len() <= n {
         return false;
     }
-    lower_swap(dots, table, m, n, worth)
+    takes_swap(gray, dots, table, m, n, worth)
 }
 
-// How many cells from here on can be passed over, no swap being accepted at any: a run of up to 16 in this row, or 0 where
-// one might be. Cells before `tested` are in a run where one was found. With many partners the test of a run takes longer
-// than that of its cells, so it is made up to reach 2.
+// How many cells from here on can be passed over, no swap being accepted at any: those that are locked, or a run of up to
+// 16 in this row, or 0 where one might be. Cells before `tested` are in a run where one was found. With many partners the
+// test of a run takes longer than that of its cells, so it is made up to reach 2.
 fn clear_swaps(
     measures: Measures,
     psf: &[u8],
@@ -82,11 +83,15 @@ fn clear_swaps(
     if m < tested {
         return 0;
     }
+    let n = least(16, measures.width - at.col);
+    let locked = locked_run(gray, m, n);
+    if 0 < locked {
+        return locked;
+    }
     if 2 < measures.reach {
         return 0;
     }
-    let n = least(16, measures.width - at.col);
-    if swaps_clear(measures.width, codes, worths, dots, table, at, n) {
+    if swaps_clear(measures.width, codes, worths, gray, dots, table, at, n) {
         return n;
     }
     0
@@ -115,6 +120,7 @@ fn first_trial(
         measures.height,
         measures.reach,
         grid,
+        gray,
         dots,
         table,
         at,

@@ -1,4 +1,5 @@
-// A toggle scan of a judged plate whose kernel is c. Runs of cells where no toggle is accepted are passed over.
+// A toggle scan of a judged plate whose kernel is c. Locked cells, and runs of cells where no toggle is accepted, are
+// passed over.
 ghost use mathlib.Core.Bool.{false};
 ghost use mathlib.Core.Path.{_≡_};
 ghost use Prim.Native.Nat.{ℕ, _+_, _^_, _≤_, _<_};
@@ -20,9 +21,10 @@ use search_runs::any_toggles;
 use search_trial::advance;
 use search_trial::toggle;
 use slices::index;
+use slices::is_locked;
 use slices::least;
 
-// a toggle scan at one cell
+// a toggle scan at one cell, which is passed over where it is locked
 fn toggle_cell(
     measures: Measures,
     psf: &[u8],
@@ -39,6 +41,9 @@ fn toggle_cell(
         Leaves t (performed t (visit t (toggles t) (now (dots .entry)) progress (cellOf (measures .width) at)))
         r (now (dots .exit)) (now (table .exit))) ⌝ }
 {
+    if is_locked(gray[index(measures.width, at)]) {
+        return progress;
+    }
     let answer = toggle(measures, psf, gray, c, dots, table, progress.stats, at);
     advance(progress, answer)
 }

@@ -1,4 +1,6 @@
--- `search_swaps::clear_swaps` meets its contract: where the test finds nothing, every trial in the run fails.
+-- `search_swaps::clear_swaps` meets its contract: at locked cells no trial is made, and where the test finds
+-- nothing, every trial in the run fails.
+use mathlib.Core.Path.{sym, _∙_}
 use Prim.Native.Nat.{_+_, _*_, _≤_}
 use native.Mathlib.Nat.{not-suc-le-zero}
 use native.Mathlib.Omega.{arith}
@@ -7,7 +9,7 @@ use Rattle.algebra.proofs.Grid.{rows-apart}
 use Rattle.invariants.specs.Plate.{Judged, OnPlate, cellOf}
 use Rattle.invariants.proofs.Partners.{worths-small}
 use Rattle.invariants.proofs.Plate.{place-fits}
-use Rattle.search_swaps.proofs.Clear.{judged-tabled, run-failed}
+use Rattle.search_swaps.proofs.Clear.{judged-tabled, run-failed, run-locked}
 use Rattle.search_swaps.proofs.clear_swaps.Statement.{statement}
 use Rattle.search_swaps.proofs.clear_swaps.Tie as tie
 
@@ -25,10 +27,6 @@ index-requires c κs = let s : tie.Start = search in place-fits (judged s) (on s
 
 returns : tie.Need-returns
 returns c =
-    let s : tie.Start = search in (omega (arith, on s .col-below), λ k h. absurd (not-suc-le-zero h))
-
-returns-2 : tie.Need-returns-2
-returns-2 c =
     let s : tie.Start = search in (omega (arith, on s .col-below), λ k h. absurd (not-suc-le-zero h))
 
 sub-least : tie.Need-sub-least
@@ -49,31 +47,56 @@ module _ (run : tie.After-least) where
       ≤ start .args .measures .height * start .args .measures .width
   room = omega (arith, short, rows-apart (start .args .measures .width) (on start .row-below))
 
-swaps-clear-requires : tie.Need-swaps-clear-requires
-swaps-clear-requires c κs =
+locked-run-requires : tie.Need-locked-run-requires
+locked-run-requires c κs =
+    let i : tie.After-index = search in
+    omega (arith, room c, i .index .ensures, judged (start c) .plate .halftone .gray-length)
+
+returns-2 : tie.Need-returns-2
+returns-2 c =
+    let k : tie.After-locked-run = search in
+    let i : tie.After-index = search in
     let run : tie.After-least = search in
     let s = start run in
-    let (row, col, wide) = place-fits (judged s) (on s) in
-    let worths = s .pre .1 .1 in (
-      (row, col, wide, omega (arith, run .least .ensures)),
-      (
-        (judged-tabled (judged s), omega (arith, room run, judged s .plate .halftone .dots-length)),
-        (worths .long, worths-small _ (judged s .kernel .small) worths),
-      ),
+    let (few, all) = k .locked-run .ensures in (
+      omega (arith, few, short run),
+      run-locked _ (s .pre .1 .0) (s .args .dots .now) (rw (i .index .ensures) at all),
     )
 
 returns-3 : tie.Need-returns-3
 returns-3 c =
+    let s : tie.Start = search in (omega (arith, on s .col-below), λ k h. absurd (not-suc-le-zero h))
+
+swaps-clear-requires : tie.Need-swaps-clear-requires
+swaps-clear-requires c κs =
+    let run : tie.After-least = search in
+    let s = start run in
+    let f = judged s .plate .halftone in
+    let (row, col, wide) = place-fits (judged s) (on s) in
+    let worths = s .pre .1 .1 in (
+      (row, col, wide, omega (arith, run .least .ensures)),
+      (
+        (
+          f .gray-length ∙ sym (f .dots-length),
+          judged-tabled (judged s),
+          omega (arith, room run, f .dots-length),
+        ),
+        (worths .long, worths-small _ (judged s .kernel .small) worths),
+      ),
+    )
+
+returns-4 : tie.Need-returns-4
+returns-4 c =
     let run : tie.After-least = search in
     let tested : tie.After-swaps-clear = search in
     let s = start run in (
       short run,
       run-failed (judged s) (on s) (s .pre .1 .0) (s .pre .1 .1) (short run)
-          (tested .swaps-clear .ensures (c .if3 .taken)),
+          (tested .swaps-clear .ensures (c .if4 .taken)),
     )
 
-returns-4 : tie.Need-returns-4
-returns-4 c =
+returns-5 : tie.Need-returns-5
+returns-5 c =
     let s : tie.Start = search in (omega (arith, on s .col-below), λ k h. absurd (not-suc-le-zero h))
 
 pub clear-swaps-spec : {M : Type 1} → statement M
@@ -82,9 +105,11 @@ clear-swaps-spec =
     (tie.spec
     index-requires
     returns
-    returns-2
     sub-least
     least-requires
-    swaps-clear-requires
+    locked-run-requires
+    returns-2
     returns-3
-    returns-4)
+    swaps-clear-requires
+    returns-4
+    returns-5)

@@ -12,6 +12,7 @@ use Rattle.model.specs.Error.{Target, targetFor}
 use Rattle.model.specs.Partners.{lands, partner}
 use Rattle.model.specs.Scan.{suits}
 use Rattle.model.proofs.Attempts.{entry-stats}
+use Rattle.model.proofs.Scan.{Suited, suits-so}
 use Rattle.invariants.specs.Partners.{rowOf, columnOf, offsetOf, HoldsOffsets}
 use Rattle.invariants.specs.Plate.{OnPlate, cellOf, Unlike, cellSwap}
 use Rattle.invariants.specs.Trials.{sweepOf, visit, lowersAt}
@@ -19,7 +20,7 @@ use Rattle.invariants.proofs.Loop.{left-none}
 use Rattle.invariants.proofs.Plate.{ready-judged}
 use Rattle.invariants.proofs.Scanning.{visit-none, attempt-advances}
 use Rattle.invariants.proofs.Trials.{swap-taken}
-use Rattle.search_swaps.proofs.Partner.{landed, stands, partner-on, suits-lands, suits-unlike}
+use Rattle.search_swaps.proofs.Partner.{landed, stands, partner-on}
 use Rattle.search_swaps.proofs.swap_cell.Statement.{statement}
 use Rattle.search_swaps.proofs.swap_cell.Tie as tie
 
@@ -75,13 +76,11 @@ module _ (a : tie.Else1) where
       ≡ true)
   lowersAt-is = and-eq-true-iff _ _ .0 took
 
-  suited : suits (target start) (start .args .dots .now) (m start) (offsetOf (code start)) ≡ true
-  suited = lowersAt-is .0
+  suited : Suited (target start) (start .args .dots .now) (m start) (offsetOf (code start))
+  suited = suits-so (target start) (start .args .dots .now) (m start) (offsetOf (code start)) (lowersAt-is .0)
 
   lands-there : lands (start .args .measures .width) (start .args .measures .height) (m start) (offsetOf (code start)) ≡ true
-  lands-there =
-      suits-lands (target start) row col (on start .col-below) (rowOf (code start)) (columnOf (code start))
-      (start .args .dots .now) suited
+  lands-there = suited .lands-there
 
   abbrev to : Cell
   to = record { row = row + rowOf (code start) - 6; col = col + columnOf (code start) - 6 }
@@ -104,8 +103,9 @@ module _ (a : tie.Else1) where
 
   unlike : Unlike (start .args .measures) (start .args .dots .now) (start .args .at) to
   unlike =
-      suits-unlike (target start) row col (on start .col-below) (rowOf (code start)) (columnOf (code start))
-      (start .args .dots .now) suited
+      subst (λ k. getD (start .args .dots .now) (m start) 0 ≡ getD (start .args .dots .now) k 0 → ⊥)
+      (stands _ (start .args .measures .height) row col (on start .col-below) (rowOf (code start))
+      (columnOf (code start)) lands-there) (suited .unlike)
 
 shared-slice-read-code : tie.Need-shared-slice-read-code
 shared-slice-read-code c = let a : tie.Else1 = search in short a
