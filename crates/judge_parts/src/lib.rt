@@ -28,7 +28,7 @@ fn any_above(limit: u8, bytes: &[u8]) -> bool
     false
 }
 
-// whether a dot is another than the gray of its cell locks it to
+// whether a dot is not the one that its gray locks it to
 fn contradicts(gray: u8, dot: u8) -> bool
     ensures { λ r. ⌜ r ≡ lockedGray gray && not (eqb dot (lockedByte 1 gray)) ⌝ }
 {
@@ -41,7 +41,8 @@ fn contradicts(gray: u8, dot: u8) -> bool
     false
 }
 
-// whether some dot is, whatever the size, radius and psf; every cell is looked at, so that many are at a time
+// whether some dot is not, whatever the size, radius and psf; without an early return, so that the compiler can take many
+// cells at a time
 fn any_contradiction(gray: &[u8], dots: &[u8]) -> bool
     requires { ⌜ length (now dots) ≡ length (now gray) ⌝ }
     ensures { λ any. ⌜ ((w h r : ℕ) (psf : List ℕ) → h * w ≡ length (now (gray .entry))
