@@ -1,20 +1,30 @@
--- The list of a later call, judged part by part: 1 to 7 (the input), 8 and 9 (the cells named), then 20, 21 and 22.
---   input-fits  where none of 1 to 7 is drawn the plate fits
---   by-input    one of 1 to 7 is drawn
+-- The list of a later call, judged part by part: 1 to 7 and 16 (the input), 8 and 9 (the cells named), then 20, 21, 23
+-- and 22.
+--   cell-on     a cell that does not draw 8 is on the plate
+--   input-fits  where none of 1 to 7 and 16 is drawn the plate fits
+--   by-input    one of these is drawn
 --   by-named    none of these, and one of 8 and 9
 --   by-rest     none of these: the rest decides
-use mathlib.Core.List.{List, _++_}
+use mathlib.Core.Bool.{not}
+use mathlib.Core.List.{List, [], _∷_, _++_}
 use mathlib.Core.Path.{_≡_}
-use Prim.Native.Nat.{ℕ}
-use lib.Dec.{T}
+use Prim.Native.Nat.{ℕ, _<_}
+use borrow.Author.Tests.{ltb-true, not-false}
+use lib.Dec.{T, ltb}
 use lib.IntN.{ℤ}
 use lib.ListN.{length}
 use Rattle.model.specs.declared.Measures.{Measures}
 use Rattle.model.specs.declared.Stats.{Stats}
 use Rattle.model.specs.Error.{targetFor}
-use Rattle.model.specs.Refusal.{Refusal, firstOf, inputRefusals, HalftoneFits}
+use Rattle.model.specs.Refusal.{Refusal, firstOf, badCell, inputRefusals, HalftoneFits}
 use Rattle.model.specs.State.{Asked, stateRefusals}
-use Rattle.model.proofs.Refusal.{numbered, none, by-first, by-second, plate-fits}
+use Rattle.model.proofs.Basic.{neither}
+use Rattle.model.proofs.Refusal.{numbered, None, none, by-first, by-second, plate-fits}
+
+pub cell-on : (w h row col : ℕ) → None (badCell w h row col ∷ []) → (row < h) × (col < w)
+cell-on w h row col drawn =
+    let (r, c) = neither (not (ltb row h)) (not (ltb col w)) (drawn .0) in
+    (ltb-true row h (not-false (ltb row h) r), ltb-true col w (not-false (ltb col w) c))
 
 -- what such a call is handed
 pub record Later : Type 0 where
@@ -37,7 +47,7 @@ module _ (h : Later) where
 
   pub input-fits : {x : ℕ} → x ≡ firstOf input → x ≡ 0 → Fits
   input-fits e z =
-      plate-fits (h .measures) (h .psf) (h .gray) (h .dots) (length (h .table)) (none input tt e z) .halftone
+      plate-fits (h .measures) (h .psf) (h .gray) (h .dots) (length (h .table)) (none input tt e z) .0 .halftone
 
   module _ (a : Asked) {x : ℕ} (e : x ≡ firstOf input) where
     abbrev rest : List Refusal

@@ -50,17 +50,6 @@ pub fn sum(bytes: &[u8]) -> usize
     sum
 }
 
-// every byte 0
-pub fn clear_bytes(out: &mut [u8])
-    ensures { λ _. ⌜ now (out .exit) ≡ tabulate (length (now (out .entry))) (λ n. 0) ⌝ }
-{
-    let mut n: usize = 0;
-    while n < out.len() {
-        out[n] = 0;
-        n += 1;
-    }
-}
-
 // every number 0
 pub fn clear_numbers(out: &mut [i32])
     ensures { λ _. ⌜ now (out .exit) ≡ tabulate (length (now (out .entry))) (λ q. pos 0) ⌝ }
