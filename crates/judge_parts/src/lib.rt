@@ -32,17 +32,11 @@ fn any_above(limit: u8, bytes: &[u8]) -> bool
 fn contradicts(gray: u8, dot: u8) -> bool
     ensures { λ r. ⌜ r ≡ lockedGray gray && not (eqb dot (lockedByte 1 gray)) ⌝ }
 {
-    if gray == 0 {
-        return dot != 0;
-    }
-    if gray == 255 {
-        return dot != 1;
-    }
-    false
+    ((gray == 0) & (dot != 0)) | ((gray == 255) & (dot != 1))
 }
 
-// whether some dot is not, whatever the size, radius and psf; without an early return, so that the compiler can take many
-// cells at a time
+// whether some dot is not, whatever the size, radius and psf; it never branches, so that the compiler takes many cells at
+// a time
 fn any_contradiction(gray: &[u8], dots: &[u8]) -> bool
     requires { ⌜ length (now dots) ≡ length (now gray) ⌝ }
     ensures { λ any. ⌜ ((w h r : ℕ) (psf : List ℕ) → h * w ≡ length (now (gray .entry))
@@ -51,9 +45,7 @@ fn any_contradiction(gray: &[u8], dots: &[u8]) -> bool
     let mut any = false;
     let mut n: usize = 0;
     while n < gray.len() {
-        if contradicts(gray[n], dots[n]) {
-            any = true;
-        }
+        any |= contradicts(gray[n], dots[n]);
         n += 1;
     }
     any

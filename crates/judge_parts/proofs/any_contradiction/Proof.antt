@@ -1,9 +1,8 @@
 -- `judge_parts::any_contradiction` meets its contract. The loop's invariant: whether one of the cells passed does.
-use mathlib.Core.Bool.{Bool, true, false, _||_, _&&_, not, or-true, or-false}
+use mathlib.Core.Bool.{Bool, _||_, _&&_, not}
 use mathlib.Core.List.{List}
-use mathlib.Core.Logic.{⊎-elim}
-use mathlib.Core.Path.{_≡_, refl, sym, _∙_, ap, ap₂}
-use Prim.Native.Nat.{ℕ, _+_, _*_, _-_, _≤_}
+use mathlib.Core.Path.{_≡_, refl, _∙_, ap, ap₂}
+use Prim.Native.Nat.{ℕ, _*_, _-_, _≤_}
 use native.Mathlib.Numerals.{add-one}
 use native.Mathlib.Omega.{arith}
 use lib.Dec.{eqb}
@@ -42,30 +41,11 @@ add-n c = omega arith
 loop-less : tie.Need-loop-less Inv-loop μ-loop
 loop-less c = omega arith
 
--- one cell more: it does, and it does not
-module _ (n : ℕ) (f : ℕ → Bool) {was here : Bool} (before : was ≡ someBelow n f) (is : here ≡ f n) where
-  joined : was || here ≡ someBelow (n + 1) f
-  unfolding someBelow
-  joined = rw add-one (ap₂ _||_ before is)
-
-  found : {any : Bool} → here ≡ true → any ≡ true → any ≡ someBelow (n + 1) f
-  found h e = e ∙ sym (or-true was) ∙ ap (λ b. was || b) (sym h) ∙ joined
-
-  passed : {any : Bool} → here ≡ false → any ≡ was → any ≡ someBelow (n + 1) f
-  passed h e = e ∙ sym (or-false was) ∙ ap (λ b. was || b) (sym h) ∙ joined
-
 loop-again : tie.Need-loop-again Inv-loop μ-loop
-unfolding locked
+unfolding someBelow locked
 loop-again c =
-    let s : tie.Start Inv-loop μ-loop = search in
     let l : tie.At-loop Inv-loop μ-loop = search in
-    let n : ℕ = l .loop .n in
-    let tests : ℕ → Bool = test (s .args .gray .now) (s .args .dots .now) in
-    let is = c .before .contradicts .ensures in (
-      omega arith,
-      ⊎-elim (λ w. found n tests (l .loop .inv .1) is (w .0 .taken) (w .1))
-          (λ w. passed n tests (l .loop .inv .1) is (w .0 .left) (w .1)) (c .if1 .came),
-    )
+    (omega arith, rw add-one (ap₂ _||_ (l .loop .inv .1) (c .contradicts .ensures)))
 
 returns : tie.Need-returns Inv-loop μ-loop
 returns c w h r psf e =
