@@ -1,5 +1,5 @@
 -- The later calls: what one was handed that is not refused, and what is drawn where that fits.
---   cells-inside                two cells that draw neither 8 nor 9 are on the plate
+--   cell-inside, cells-inside   a cell that does not draw 8 is on the plate, and two that draw neither 8 nor 9
 --   later-draws                 of what fits, none of 1 to 7, 16, 20 and 21 is drawn: only what it asks of its cells
 --   fits-later, later-enters    a call that names no cell is refused exactly where what it was handed does not fit
 --   toggle-enters, swap-enters  an attempt that is not refused: its cells are on the plate and unlocked, those of a
@@ -26,7 +26,7 @@ use Rattle.model.proofs.Refusal.{plate-fits, plate-none}
 use Rattle.model.proofs.State.{state-accepted, state-known}
 
 -- a cell that is not off the plate
-cell-inside : (w h row col : ℕ) → off w h row col ≡ false → (row < h) × (col < w)
+pub cell-inside : (w h row col : ℕ) → off w h row col ≡ false → (row < h) × (col < w)
 cell-inside w h row col e =
     let (r, c) = neither (not (ltb row h)) (not (ltb col w)) e in (
       ltb→lt row h (subst T (sym (not-false (ltb row h) r)) tt),

@@ -1,30 +1,21 @@
 -- The list of a later call, judged part by part: 1 to 7 and 16 (the input), 8 and 9 (the cells named), then 20, 21, 23
 -- and 22.
---   cell-on     a cell that does not draw 8 is on the plate
 --   input-fits  where none of 1 to 7 and 16 is drawn the plate fits
 --   by-input    one of these is drawn
 --   by-named    none of these, and one of 8 and 9
 --   by-rest     none of these: the rest decides
-use mathlib.Core.Bool.{not}
-use mathlib.Core.List.{List, [], _∷_, _++_}
+use mathlib.Core.List.{List, _++_}
 use mathlib.Core.Path.{_≡_}
-use Prim.Native.Nat.{ℕ, _<_}
-use borrow.Author.Tests.{ltb-true, not-false}
-use lib.Dec.{T, ltb}
+use Prim.Native.Nat.{ℕ}
+use lib.Dec.{T}
 use lib.IntN.{ℤ}
 use lib.ListN.{length}
 use Rattle.model.specs.declared.Measures.{Measures}
 use Rattle.model.specs.declared.Stats.{Stats}
 use Rattle.model.specs.Error.{targetFor}
-use Rattle.model.specs.Refusal.{Refusal, firstOf, badCell, inputRefusals, HalftoneFits}
+use Rattle.model.specs.Refusal.{Refusal, firstOf, inputRefusals, HalftoneFits}
 use Rattle.model.specs.State.{Asked, stateRefusals}
-use Rattle.model.proofs.Basic.{neither}
-use Rattle.model.proofs.Refusal.{numbered, None, none, by-first, by-second, plate-fits}
-
-pub cell-on : (w h row col : ℕ) → None (badCell w h row col ∷ []) → (row < h) × (col < w)
-cell-on w h row col drawn =
-    let (r, c) = neither (not (ltb row h)) (not (ltb col w)) (drawn .0) in
-    (ltb-true row h (not-false (ltb row h) r), ltb-true col w (not-false (ltb col w) c))
+use Rattle.model.proofs.Refusal.{numbered, none, by-first, by-second, plate-fits}
 
 -- what such a call is handed
 pub record Later : Type 0 where

@@ -8,7 +8,8 @@ use Rattle.model.specs.Ledger.{wrongStats}
 use Rattle.model.specs.State.{Asked, toggleAsked, badTable, toggleRefusal}
 use Rattle.model.proofs.Refusal.{none}
 use Rattle.invariants.proofs.Refusal.{by-either}
-use Rattle.search_judge.proofs.Lists.{Later, Fits, state, cell-on, input-fits, by-input, by-named, by-rest}
+use Rattle.model.proofs.Later.{cell-inside}
+use Rattle.search_judge.proofs.Lists.{Later, Fits, state, input-fits, by-input, by-named, by-rest}
 use Rattle.search_judge.proofs.judge_toggle.Statement.{statement}
 use Rattle.search_judge.proofs.judge_toggle.Tie as tie
 
@@ -60,7 +61,7 @@ module _ (c : tie.Else2) where
 
   on : let a = s .args in (a .at .row < a .measures .height) × (a .at .col < a .measures .width)
   unfolding s
-  on = cell-on _ _ _ _ (none (asked s .named) tt (c .before .judge-cell .ensures) (c .if2 .left))
+  on = cell-inside _ _ _ _ (none (asked s .named) tt (c .before .judge-cell .ensures) (c .if2 .left) .0)
 
 judge-state-requires : tie.Need-judge-state-requires
 unfolding s
