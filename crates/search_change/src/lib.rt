@@ -2,7 +2,7 @@
 // operations.
 ghost use mathlib.Core.Path.{_≡_};
 ghost use Prim.Native.Nat.{_+_, _*_, _<_, _≤_};
-ghost use lib.IntN.{pos, natAbs, _-ℤ_, _*ℤ_};
+ghost use lib.IntN.{pos, natAbs, _+ℤ_, _-ℤ_, _*ℤ_};
 ghost use lib.ListN.{length, getD};
 ghost use lib.Signed.{ltZ};
 ghost use Rattle.model.specs.Basic.{squareAt};
@@ -23,14 +23,34 @@ pub fn signed(dot: u8, value: i32) -> i32
     if dot == 0 { value } else { -value }
 }
 
-// what a toggle of the cell m adds: 255 × (2 × s(m) × T(m) + 255 × P)
+// 2 × s(m) × T(m) + 255 × P
+fn toggle_sum(peak: i32, dots: &[u8], table: &[i32], m: usize) -> i32
+    requires { ⌜ (m < length (now dots)) × (m < length (now table)) ⌝ }
+    requires { ⌜ (natAbs peak ≤ mostKernel) × Small mostFiltered (now table) ⌝ }
+    ensures { λ r. ⌜ r ≡ pos 2 *ℤ sign (now (dots .entry)) m *ℤ getD (now (table .entry)) m (pos 0) +ℤ pos 255 *ℤ peak ⌝ }
+    ensures { λ r. ⌜ natAbs r ≤ 3 * mostFiltered ⌝ }
+{
+    2 * signed(dots[m], table[m]) + 255 * peak
+}
+
+// what a toggle of the cell m adds: 255 times that
 pub fn toggle_change(peak: i32, dots: &[u8], table: &[i32], m: usize) -> i64
     requires { ⌜ (m < length (now dots)) × (m < length (now table)) ⌝ }
     requires { ⌜ (natAbs peak ≤ mostKernel) × Small mostFiltered (now table) ⌝ }
     ensures { λ r. ⌜ r ≡ toggleSum 255 peak (sign (now (dots .entry)) m) (getD (now (table .entry)) m (pos 0)) ⌝ }
     ensures { λ r. ⌜ natAbs r ≤ mostChange ⌝ }
 {
-    255 * ((2 * signed(dots[m], table[m]) + 255 * peak) as i64)
+    255 * (toggle_sum(peak, dots, table, m) as i64)
+}
+
+// whether it lowers the squared error
+pub fn lower_toggle(peak: i32, dots: &[u8], table: &[i32], m: usize) -> bool
+    requires { ⌜ (m < length (now dots)) × (m < length (now table)) ⌝ }
+    requires { ⌜ (natAbs peak ≤ mostKernel) × Small mostFiltered (now table) ⌝ }
+    ensures { λ r. ⌜ r ≡ ltZ (toggleSum 255 peak (sign (now (dots .entry)) m) (getD (now (table .entry)) m (pos 0)))
+        (pos 0) ⌝ }
+{
+    toggle_sum(peak, dots, table, m) < 0
 }
 
 // c at the offset from one cell back to another, 0 past 2r

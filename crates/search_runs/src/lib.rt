@@ -12,28 +12,42 @@ ghost use Rattle.invariants.specs.Window.{Small, mostKernel, mostWorth};
 ghost use Rattle.search_runs.specs.Run.{Tabled, TogglesClear, SwapsClear, CellsClear, RunLocked};
 use model::Cell;
 use search_change::difference;
-use search_change::signed;
+use search_change::lower_toggle;
 use search_change::takes_swap;
 use slices::index;
 use slices::is_locked;
 
-// whether a toggle is accepted at one of the n cells from `from` on
+// whether a toggle lowers the squared error at one of the n cells from `from` on
 pub fn any_toggles(peak: i32, dots: &[u8], table: &[i32], from: usize, n: usize) -> bool
     requires { ⌜ (from + n ≤ length (now dots)) × (from + n ≤ length (now table)) ⌝ }
     requires { ⌜ (natAbs peak ≤ mostKernel) × Small mostFiltered (now table) ⌝ }
     ensures { λ r. ⌜ (r ≡ false → TogglesClear peak (now (dots .entry)) (now (table .entry)) from n) ⌝ }
 {
-    let limit = 255 * peak;
     let mut any = false;
     let mut k: usize = 0;
     while k < n {
-        let at = from + k;
-        if 2 * signed(dots[at], table[at]) + limit < 0 {
+        if lower_toggle(peak, dots, table, from + k) {
             any = true;
         }
         k += 1;
     }
     any
+}
+
+// how many of the n cells from `from` on come before the first where a toggle lowers the squared error
+pub fn quiet_toggles(peak: i32, dots: &[u8], table: &[i32], from: usize, n: usize) -> usize
+    requires { ⌜ (from + n ≤ length (now dots)) × (from + n ≤ length (now table)) ⌝ }
+    requires { ⌜ (natAbs peak ≤ mostKernel) × Small mostFiltered (now table) ⌝ }
+    ensures { λ r. ⌜ (r ≤ n) × TogglesClear peak (now (dots .entry)) (now (table .entry)) from r ⌝ }
+{
+    let mut k: usize = 0;
+    while k < n {
+        if lower_toggle(peak, dots, table, from + k) {
+            return k;
+        }
+        k += 1;
+    }
+    n
 }
 
 // whether a swap of one of the n cells from `from` on with the cell as far from `to` lowers the squared error, whatever the

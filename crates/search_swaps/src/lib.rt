@@ -30,6 +30,7 @@ use search_toggles::run_end;
 use search_trial::advance;
 use search_trial::swap;
 use slices::index;
+use slices::is_locked;
 use slices::least;
 
 // One trial of a swap scan: whether the partner at the offset of that code suits and the swap with it lowers the squared
@@ -80,13 +81,12 @@ fn clear_swaps(
         (cellOf (measures .width) at + k) (length (now (codes .entry)))) ⌝ }
 {
     let m = index(measures.width, at);
+    let n = least(16, measures.width - at.col);
+    if is_locked(gray[m]) {
+        return locked_run(gray, m, n);
+    }
     if m < tested {
         return 0;
-    }
-    let n = least(16, measures.width - at.col);
-    let locked = locked_run(gray, m, n);
-    if 0 < locked {
-        return locked;
     }
     if 2 < measures.reach {
         return 0;

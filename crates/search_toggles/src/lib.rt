@@ -18,6 +18,7 @@ use search_change::peak;
 use search_partners::ahead;
 use search_partners::next;
 use search_runs::any_toggles;
+use search_runs::quiet_toggles;
 use search_trial::advance;
 use search_trial::toggle;
 use slices::index;
@@ -48,8 +49,8 @@ fn toggle_cell(
     advance(progress, answer)
 }
 
-// How many cells from here on can be passed over, a toggle being accepted at none: a run of up to 16 in this row, or 0
-// where one is accepted in it. Cells before `tested` are in a run where one was found.
+// How many cells from here on can be passed over, a toggle lowering the squared error at none: a run of up to 16 in this
+// row, or those of it before the first where one does. Cells before `tested` are in a run where one was found.
 fn clear_run(
     measures: Measures,
     psf: &[u8],
@@ -66,14 +67,14 @@ fn clear_run(
         (Change.toggle (now (dots .entry)) (cellOf (measures .width) at + k)) ≡ false) ⌝ }
 {
     let m = index(measures.width, at);
-    if m < tested {
-        return 0;
-    }
     let n = least(16, measures.width - at.col);
-    if any_toggles(peak(measures.radius, c), dots, table, m, n) {
-        return 0;
+    let peak = peak(measures.radius, c);
+    if tested <= m {
+        if !any_toggles(peak, dots, table, m, n) {
+            return n;
+        }
     }
-    n
+    quiet_toggles(peak, dots, table, m, n)
 }
 
 // the end of the run that was tested

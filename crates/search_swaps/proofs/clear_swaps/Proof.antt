@@ -1,14 +1,15 @@
 -- `search_swaps::clear_swaps` meets its contract: at locked cells no trial is made, and where the test finds
 -- nothing, every trial in the run fails.
-use mathlib.Core.Path.{sym, _∙_}
-use Prim.Native.Nat.{_+_, _*_, _≤_}
+use mathlib.Core.Path.{sym, _∙_, subst}
+use Prim.Native.Nat.{_+_, _*_, _≤_, _<_}
 use native.Mathlib.Nat.{not-suc-le-zero}
 use native.Mathlib.Omega.{arith}
 use borrow.Author.Needs.{needs}
+use lib.ListN.{length}
 use Rattle.algebra.proofs.Grid.{rows-apart}
 use Rattle.invariants.specs.Plate.{Judged, OnPlate, cellOf}
 use Rattle.invariants.proofs.Partners.{worths-small}
-use Rattle.invariants.proofs.Plate.{place-fits}
+use Rattle.invariants.proofs.Plate.{place-fits, on-gray}
 use Rattle.search_swaps.proofs.Clear.{judged-tabled, run-failed, run-locked}
 use Rattle.search_swaps.proofs.clear_swaps.Statement.{statement}
 use Rattle.search_swaps.proofs.clear_swaps.Tie as tie
@@ -24,10 +25,6 @@ module _ (s : tie.Start) where
 
 index-requires : tie.Need-index-requires
 index-requires c κs = let s : tie.Start = search in place-fits (judged s) (on s)
-
-returns : tie.Need-returns
-returns c =
-    let s : tie.Start = search in (omega (arith, on s .col-below), λ k h. absurd (not-suc-le-zero h))
 
 sub-least : tie.Need-sub-least
 sub-least c = let s : tie.Start = search in omega (arith, on s .col-below)
@@ -47,21 +44,34 @@ module _ (run : tie.After-least) where
       ≤ start .args .measures .height * start .args .measures .width
   room = omega (arith, short, rows-apart (start .args .measures .width) (on start .row-below))
 
+shared-slice-read-is-locked : tie.Need-shared-slice-read-is-locked
+shared-slice-read-is-locked c =
+    let s : tie.Start = search in
+    let i : tie.After-index = search in
+    subst (λ k. k < length (s .args .gray .now)) (sym (i .index .ensures)) (on-gray (judged s) (on s))
+
+is-locked-requires : tie.Need-is-locked-requires
+is-locked-requires c κs = search needs
+
 locked-run-requires : tie.Need-locked-run-requires
 locked-run-requires c κs =
     let i : tie.After-index = search in
-    omega (arith, room c, i .index .ensures, judged (start c) .plate .halftone .gray-length)
+    let run : tie.After-least = search in
+    omega (arith, room run, i .index .ensures, judged (start run) .plate .halftone .gray-length)
 
-returns-2 : tie.Need-returns-2
-returns-2 c =
-    let k : tie.After-locked-run = search in
+returns : tie.Need-returns
+returns c =
     let i : tie.After-index = search in
     let run : tie.After-least = search in
     let s = start run in
-    let (few, all) = k .locked-run .ensures in (
+    let (few, all) = c .locked-run .ensures in (
       omega (arith, few, short run),
       run-locked _ (s .pre .1 .0) (s .args .dots .now) (rw (i .index .ensures) at all),
     )
+
+returns-2 : tie.Need-returns-2
+returns-2 c =
+    let s : tie.Start = search in (omega (arith, on s .col-below), λ k h. absurd (not-suc-le-zero h))
 
 returns-3 : tie.Need-returns-3
 returns-3 c =
@@ -104,10 +114,12 @@ clear-swaps-spec =
     tie.close
     (tie.spec
     index-requires
-    returns
     sub-least
     least-requires
+    shared-slice-read-is-locked
+    is-locked-requires
     locked-run-requires
+    returns
     returns-2
     returns-3
     swaps-clear-requires
