@@ -16,6 +16,15 @@ use search_change::lower_toggle;
 use search_change::takes_swap;
 use slices::index;
 use slices::is_locked;
+use slices::least;
+
+// how long a run of cells is from this one on: up to 16 in its row
+pub fn run_length(width: usize, at: Cell) -> usize
+    requires { ⌜ at .col < width ⌝ }
+    ensures { λ r. ⌜ (r ≤ 16) × (at .col + r ≤ width) ⌝ }
+{
+    least(16, width - at.col)
+}
 
 // whether a toggle lowers the squared error at one of the n cells from `from` on
 pub fn any_toggles(peak: i32, dots: &[u8], table: &[i32], from: usize, n: usize) -> bool

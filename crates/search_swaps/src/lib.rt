@@ -25,13 +25,13 @@ use search_prune::grid_size;
 use search_prune::lay_worths;
 use search_prune::may_lower;
 use search_runs::locked_run;
+use search_runs::run_length;
 use search_runs::swaps_clear;
 use search_toggles::run_end;
 use search_trial::advance;
 use search_trial::swap;
 use slices::index;
 use slices::is_locked;
-use slices::least;
 
 // One trial of a swap scan: whether the partner at the offset of that code suits and the swap with it lowers the squared
 // error; `worth` is 255 × (P - c) of the offset.
@@ -81,9 +81,8 @@ fn clear_swaps(
         (cellOf (measures .width) at + k) (length (now (codes .entry)))) ⌝ }
 {
     let m = index(measures.width, at);
-    let n = least(16, measures.width - at.col);
     if is_locked(gray[m]) {
-        return locked_run(gray, m, n);
+        return locked_run(gray, m, run_length(measures.width, at));
     }
     if m < tested {
         return 0;
@@ -91,6 +90,7 @@ fn clear_swaps(
     if 2 < measures.reach {
         return 0;
     }
+    let n = run_length(measures.width, at);
     if swaps_clear(measures.width, codes, worths, gray, dots, table, at, n) {
         return n;
     }
@@ -130,7 +130,7 @@ fn first_trial(
     codes.len()
 }
 
-// The swap of a cell with the partner found, if one was.
+// The swap of a cell with the partner found.
 fn swap_cell(
     measures: Measures,
     psf: &[u8],
@@ -145,15 +145,12 @@ fn swap_cell(
 ) -> Progress
     requires { ⌜ Ready measures (now psf) (now gray) (now c) (now dots) (now table) (progress .stats) ⌝ }
     requires { ⌜ OnPlate measures at × (progress .changes < 2 ^ 63) × HoldsOffsets (measures .reach) (now codes) ⌝ }
-    requires { ⌜ (found < length (now codes) → lowersAt (targetFor measures (now psf) (now gray)) (now dots)
+    requires { ⌜ (found < length (now codes)) × (lowersAt (targetFor measures (now psf) (now gray)) (now dots)
         (cellOf (measures .width) at) (offsetOf (getD (now codes) found 0)) ≡ true) ⌝ }
     ensures { λ r. ⌜ (let t = targetFor measures (now (psf .entry)) (now (gray .entry)) in
         Leaves t (performed t (visit t (swapsAfter t (measures .reach) found) (now (dots .entry)) progress
         (cellOf (measures .width) at))) r (now (dots .exit)) (now (table .exit))) ⌝ }
 {
-    if codes.len() <= found {
-        return progress;
-    }
     let code = codes[found];
     let to = Cell {
         row: at.row + (code / 16) as usize - 6,
@@ -217,18 +214,20 @@ fn swap_by(
                 }
                 k += 1;
             };
-            progress = swap_cell(
-                measures,
-                psf,
-                gray,
-                c,
-                codes,
-                dots,
-                table,
-                progress,
-                at,
-                found,
-            );
+            if found < codes.len() {
+                progress = swap_cell(
+                    measures,
+                    psf,
+                    gray,
+                    c,
+                    codes,
+                    dots,
+                    table,
+                    progress,
+                    at,
+                    found,
+                );
+            }
             at = next(measures.width, at);
         }
     }

@@ -19,11 +19,11 @@ use search_partners::ahead;
 use search_partners::next;
 use search_runs::any_toggles;
 use search_runs::quiet_toggles;
+use search_runs::run_length;
 use search_trial::advance;
 use search_trial::toggle;
 use slices::index;
 use slices::is_locked;
-use slices::least;
 
 // a toggle scan at one cell, which is passed over where it is locked
 fn toggle_cell(
@@ -67,7 +67,7 @@ fn clear_run(
         (Change.toggle (now (dots .entry)) (cellOf (measures .width) at + k)) ≡ false) ⌝ }
 {
     let m = index(measures.width, at);
-    let n = least(16, measures.width - at.col);
+    let n = run_length(measures.width, at);
     let peak = peak(measures.radius, c);
     if tested <= m {
         if !any_toggles(peak, dots, table, m, n) {
@@ -85,7 +85,7 @@ pub fn run_end(width: usize, at: Cell, tested: usize) -> usize
     if m < tested {
         return tested;
     }
-    m + least(16, width - at.col)
+    m + run_length(width, at)
 }
 
 // A toggle scan: what it has come to at its end.

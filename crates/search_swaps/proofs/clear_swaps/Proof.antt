@@ -1,7 +1,7 @@
 -- `search_swaps::clear_swaps` meets its contract: at locked cells no trial is made, and where the test finds
 -- nothing, every trial in the run fails.
 use mathlib.Core.Path.{sym, _∙_, subst}
-use Prim.Native.Nat.{_+_, _*_, _≤_, _<_}
+use Prim.Native.Nat.{ℕ, _+_, _*_, _≤_, _<_}
 use native.Mathlib.Nat.{not-suc-le-zero}
 use native.Mathlib.Omega.{arith}
 use borrow.Author.Needs.{needs}
@@ -26,24 +26,6 @@ module _ (s : tie.Start) where
 index-requires : tie.Need-index-requires
 index-requires c κs = let s : tie.Start = search in place-fits (judged s) (on s)
 
-sub-least : tie.Need-sub-least
-sub-least c = let s : tie.Start = search in omega (arith, on s .col-below)
-
-least-requires : tie.Need-least-requires
-least-requires c κs = search needs
-
--- the run ends in its row
-module _ (run : tie.After-least) where
-  abbrev start : tie.Start
-  start = search
-
-  short : start .args .at .col + run .least .result ≤ start .args .measures .width
-  short = omega (arith, run .least .ensures, on start .col-below)
-
-  room : cellOf (start .args .measures .width) (start .args .at) + run .least .result
-      ≤ start .args .measures .height * start .args .measures .width
-  room = omega (arith, short, rows-apart (start .args .measures .width) (on start .row-below))
-
 shared-slice-read-is-locked : tie.Need-shared-slice-read-is-locked
 shared-slice-read-is-locked c =
     let s : tie.Start = search in
@@ -53,19 +35,27 @@ shared-slice-read-is-locked c =
 is-locked-requires : tie.Need-is-locked-requires
 is-locked-requires c κs = search needs
 
+run-length-requires : tie.Need-run-length-requires
+run-length-requires c κs = let s : tie.Start = search in on s .col-below
+
+-- a run that ends in its row has its cells on the plate
+room : (s : tie.Start) (n : ℕ) → s .args .at .col + n ≤ s .args .measures .width
+    → cellOf (s .args .measures .width) (s .args .at) + n ≤ s .args .measures .height * s .args .measures .width
+room s n h = omega (arith, h, rows-apart (s .args .measures .width) (on s .row-below))
+
 locked-run-requires : tie.Need-locked-run-requires
 locked-run-requires c κs =
+    let s : tie.Start = search in
     let i : tie.After-index = search in
-    let run : tie.After-least = search in
-    omega (arith, room run, i .index .ensures, judged (start run) .plate .halftone .gray-length)
+    omega (arith, room s _ (c .run-length .ensures .1), i .index .ensures, judged s .plate .halftone .gray-length)
 
 returns : tie.Need-returns
 returns c =
+    let s : tie.Start = search in
     let i : tie.After-index = search in
-    let run : tie.After-least = search in
-    let s = start run in
+    let run : tie.After-run-length = search in
     let (few, all) = c .locked-run .ensures in (
-      omega (arith, few, short run),
+      omega (arith, few, run .run-length .ensures .1),
       run-locked _ (s .pre .1 .0) (s .args .dots .now) (rw (i .index .ensures) at all),
     )
 
@@ -77,19 +67,22 @@ returns-3 : tie.Need-returns-3
 returns-3 c =
     let s : tie.Start = search in (omega (arith, on s .col-below), λ k h. absurd (not-suc-le-zero h))
 
+run-length-requires-2 : tie.Need-run-length-requires-2
+run-length-requires-2 c κs = let s : tie.Start = search in on s .col-below
+
 swaps-clear-requires : tie.Need-swaps-clear-requires
 swaps-clear-requires c κs =
-    let run : tie.After-least = search in
-    let s = start run in
+    let s : tie.Start = search in
     let f = judged s .plate .halftone in
+    let (few, short) = c .run-length2 .ensures in
     let (row, col, wide) = place-fits (judged s) (on s) in
     let worths = s .pre .1 .1 in (
-      (row, col, wide, omega (arith, run .least .ensures)),
+      (row, col, wide, few),
       (
         (
           f .gray-length ∙ sym (f .dots-length),
           judged-tabled (judged s),
-          omega (arith, room run, f .dots-length),
+          omega (arith, room s _ short, f .dots-length),
         ),
         (worths .long, worths-small _ (judged s .kernel .small) worths),
       ),
@@ -97,12 +90,12 @@ swaps-clear-requires c κs =
 
 returns-4 : tie.Need-returns-4
 returns-4 c =
-    let run : tie.After-least = search in
+    let s : tie.Start = search in
+    let run : tie.After-run-length2 = search in
     let tested : tie.After-swaps-clear = search in
-    let s = start run in (
-      short run,
-      run-failed (judged s) (on s) (s .pre .1 .0) (s .pre .1 .1) (short run)
-          (tested .swaps-clear .ensures (c .if4 .taken)),
+    let short = run .run-length2 .ensures .1 in (
+      short,
+      run-failed (judged s) (on s) (s .pre .1 .0) (s .pre .1 .1) short (tested .swaps-clear .ensures (c .if4 .taken)),
     )
 
 returns-5 : tie.Need-returns-5
@@ -114,14 +107,14 @@ clear-swaps-spec =
     tie.close
     (tie.spec
     index-requires
-    sub-least
-    least-requires
     shared-slice-read-is-locked
     is-locked-requires
+    run-length-requires
     locked-run-requires
     returns
     returns-2
     returns-3
+    run-length-requires-2
     swaps-clear-requires
     returns-4
     returns-5)

@@ -35,11 +35,8 @@ module _ (s : tie.Start) where
 index-requires : tie.Need-index-requires
 index-requires c κs = let s : tie.Start = search in place-fits (judged s) (on s)
 
-sub-least : tie.Need-sub-least
-sub-least c = let s : tie.Start = search in omega (arith, on s .col-below)
-
-least-requires : tie.Need-least-requires
-least-requires c κs = search needs
+run-length-requires : tie.Need-run-length-requires
+run-length-requires c κs = let s : tie.Start = search in on s .col-below
 
 peak-requires : tie.Need-peak-requires
 peak-requires c κs = let s : tie.Start = search in kernel-square (judged s)
@@ -52,17 +49,17 @@ module _ (p : tie.After-peak) where
   abbrev i : tie.After-index
   i = search
 
-  abbrev run : tie.After-least
+  abbrev run : tie.After-run-length
   run = search
 
   abbrev m : ℕ
   m = cellOf (start .args .measures .width) (start .args .at)
 
   -- the run ends in its row
-  short : start .args .at .col + run .least .result ≤ start .args .measures .width
-  short = omega (arith, run .least .ensures, on start .col-below)
+  short : start .args .at .col + run .run-length .result ≤ start .args .measures .width
+  short = run .run-length .ensures .1
 
-  room : m + run .least .result ≤ start .args .measures .height * start .args .measures .width
+  room : m + run .run-length .result ≤ start .args .measures .height * start .args .measures .width
   room = omega (arith, short, rows-apart (start .args .measures .width) (on start .row-below))
 
   peak-is : toZ w32 (ofZ w32 (p .peak .result))
@@ -70,8 +67,8 @@ module _ (p : tie.After-peak) where
   peak-is = read-back w32 (p .peak .result) (p .peak .ok) ∙ p .peak .ensures
 
   -- so the tests can be made
-  testable : ((i .index .result + run .least .result ≤ length (start .args .dots .now))
-      × (i .index .result + run .least .result ≤ length (start .args .table .now)))
+  testable : ((i .index .result + run .run-length .result ≤ length (start .args .dots .now))
+      × (i .index .result + run .run-length .result ≤ length (start .args .table .now)))
       × ((natAbs (toZ w32 (ofZ w32 (p .peak .result))) ≤ mostKernel) × Small mostFiltered (start .args .table .now))
   testable =
       let f = judged start .plate .halftone in
@@ -84,7 +81,7 @@ module _ (p : tie.After-peak) where
       )
 
   -- and where they find nothing in the first n cells, no toggle there lowers E
-  quiet : {n : ℕ} → n ≤ run .least .result
+  quiet : {n : ℕ} → n ≤ run .run-length .result
       → TogglesClear (toZ w32 (ofZ w32 (p .peak .result))) (start .args .dots .now) (start .args .table .now)
       (i .index .result) n
       → (j : ℕ) → j < n
@@ -120,8 +117,7 @@ clear-run-spec =
     tie.close
     (tie.spec
     index-requires
-    sub-least
-    least-requires
+    run-length-requires
     peak-requires
     any-toggles-requires
     returns
