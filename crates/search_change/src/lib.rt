@@ -113,7 +113,7 @@ pub fn swap_change(peak: i32, apart: i32, dots: &[u8], table: &[i32], m: usize, 
 
 // whether m and n have unlike dots and their swap lowers the squared error; `worth` is 255 × (P - c(m - n)). The sum is
 // tested first: it seldom is below 0, while dots are as often unlike as alike.
-fn lower_swap(dots: &[u8], table: &[i32], m: usize, n: usize, worth: i32) -> bool
+pub fn lower_swap(dots: &[u8], table: &[i32], m: usize, n: usize, worth: i32) -> bool
     requires { ⌜ (m < length (now dots)) × (n < length (now dots)) × (length (now table) ≡ length (now dots)) ⌝ }
     requires { ⌜ Small mostFiltered (now table) × (natAbs worth ≤ mostWorth) ⌝ }
     ensures { λ r. ⌜ r ≡ lowersBy (now (dots .entry)) (now (table .entry)) m n worth ⌝ }

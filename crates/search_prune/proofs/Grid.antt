@@ -32,22 +32,22 @@ worth-in-small radius small reach q =
     (λ e. worth-small radius small (q / rowLength reach + 6 - reach) (q % rowLength reach + 6 - reach)) (λ e. lit≤ tt)
 
 -- ---- trials that fail
-module _ {width reach : ℕ} {gray dots : List ℕ} {table grid : List ℤ} {row col : ℕ} where
+module _ {width reach : ℕ} {dots : List ℕ} {table grid : List ℤ} {row col : ℕ} where
   -- no row yet
-  pub rows-none : RowsClear width (row - reach) reach gray dots table grid row col
+  pub rows-none : RowsClear width (row - reach) reach dots table grid row col
   rows-none = record { each = λ j i a b d e f. absurd (omega arith) }
 
   -- one row more
   pub rows-more : (y : ℕ) → row ≤ y + reach → reach ≤ y * width + col
-      → RowsClear width y reach gray dots table grid row col
+      → RowsClear width y reach dots table grid row col
       → RunClear dots table grid (cellAt width row col) (y * width + col - reach)
-      ((y + reach - row) * rowLength reach) (rowLength reach) gray
-      → RowsClear width (y + 1) reach gray dots table grid row col
+      ((y + reach - row) * rowLength reach) (rowLength reach)
+      → RowsClear width (y + 1) reach dots table grid row col
   rows-more y above placed r n = record { each = λ j i a b d e f. go j i a b d e f (ℕ-discrete (row + j) (y + reach)) }
     where
       go : (j i : ℕ) → j ≤ 2 * reach → i < rowLength reach → reach ≤ row + j → row + j < y + 1 + reach → reach ≤ col + i
           → Dec (row + j ≡ y + reach)
-          → Fails gray dots table (cellAt width row col) (cellAt width (row + j - reach) (col + i - reach))
+          → Fails dots table (cellAt width row col) (cellAt width (row + j - reach) (col + i - reach))
           (getD grid (j * rowLength reach + i) (pos 0))
       go j i a b d e f (no p) = r .each j i a b d (omega arith) f
       go j i a b d e f (yes p) =
@@ -58,6 +58,6 @@ module _ {width reach : ℕ} {gray dots : List ℕ} {table grid : List ℤ} {row
 
   -- all rows within reach
   pub rows-all : (y height : ℕ) → min (row + reach + 1) height ≤ y
-      → RowsClear width y reach gray dots table grid row col
-      → RowsClear width height reach gray dots table grid row col
+      → RowsClear width y reach dots table grid row col
+      → RowsClear width height reach dots table grid row col
   rows-all y height h r = record { each = λ j i a b d g f. r .each j i a b d (omega arith) f }

@@ -44,13 +44,13 @@ module _ (dots : List ℕ) (table grid : List ℤ) (m from at n : ℕ) where
     pub laid : at + n ≤ length grid
     pub small : Small mostWorth grid
 
-  -- each such trial fails, the gray being this
-  pub record RunClear (gray : List ℕ) : Type 0 where
-    pub each : (k : ℕ) → k < n → Fails gray dots table m (from + k) (getD grid (at + k) (pos 0))
+  -- each such trial fails
+  pub record RunClear : Type 0 where
+    pub each : (k : ℕ) → k < n → Fails dots table m (from + k) (getD grid (at + k) (pos 0))
 
 -- so it is with each cell in the rows above `bottom` whose offset from (row, col) is (j - reach, i - reach)
-pub record RowsClear (width bottom reach : ℕ) (gray dots : List ℕ) (table grid : List ℤ) (row col : ℕ) : Type 0 where
+pub record RowsClear (width bottom reach : ℕ) (dots : List ℕ) (table grid : List ℤ) (row col : ℕ) : Type 0 where
   pub each : (j i : ℕ) → j ≤ 2 * reach → i < rowLength reach → reach ≤ row + j → row + j < bottom + reach
       → reach ≤ col + i
-      → Fails gray dots table (cellAt width row col) (cellAt width (row + j - reach) (col + i - reach))
+      → Fails dots table (cellAt width row col) (cellAt width (row + j - reach) (col + i - reach))
       (getD grid (j * rowLength reach + i) (pos 0))

@@ -1,9 +1,8 @@
 // The quick test of all partners of a cell by the table: row by row of those within reach, whether a swap with one might
 // lower the squared error. Where none does, the trials in order can be left out.
 ghost use mathlib.Core.Bool.{true, false};
-ghost use mathlib.Core.List.{List};
 ghost use mathlib.Core.Path.{_≡_};
-ghost use Prim.Native.Nat.{ℕ, _*_, _<_, _≤_};
+ghost use Prim.Native.Nat.{_*_, _<_, _≤_};
 ghost use lib.IntN.{pos};
 ghost use lib.ListN.{length};
 ghost use Rattle.model.specs.Basic.{squareAt};
@@ -15,8 +14,8 @@ use filter_window::low;
 use model::Cell;
 use search_change::between;
 use search_change::difference;
+use search_change::lower_swap;
 use search_change::peak;
-use search_change::takes_swap;
 use slices::index;
 
 // the largest size of what an offset is worth: no difference of two table entries outweighs it
@@ -73,7 +72,7 @@ pub fn lay_worths(radius: usize, c: &[i32], reach: usize, grid: &mut [i32])
     }
 }
 
-// whether the sum of a trial of m is below 0 with one of the n cells from `from` on, whatever the gray
+// whether the sum of a trial of m is below 0 with one of the n cells from `from` on
 fn any_below(
     dots: &[u8],
     table: &[i32],
@@ -84,8 +83,7 @@ fn any_below(
     n: usize,
 ) -> bool
     requires { ⌜ RunTest (now dots) (now table) (now grid) m from at n ⌝ }
-    ensures { λ r. ⌜ (r ≡ false → (gray : List ℕ)
-        → RunClear (now (dots .entry)) (now (table .entry)) (now (grid .entry)) m from at n gray) ⌝ }
+    ensures { λ r. ⌜ (r ≡ false → RunClear (now (dots .entry)) (now (table .entry)) (now (grid .entry)) m from at n) ⌝ }
 {
     let mut any = false;
     let mut k: usize = 0;
@@ -99,9 +97,8 @@ fn any_below(
     any
 }
 
-// whether a swap of m with one of the n cells from `from` on lowers the squared error, neither being locked
+// whether a swap of m with one of the n cells from `from` on lowers the squared error
 fn any_lower(
-    gray: &[u8],
     dots: &[u8],
     table: &[i32],
     m: usize,
@@ -110,13 +107,12 @@ fn any_lower(
     at: usize,
     n: usize,
 ) -> bool
-    requires { ⌜ (length (now gray) ≡ length (now dots)) × RunTest (now dots) (now table) (now grid) m from at n ⌝ }
-    ensures { λ r. ⌜ (r ≡ false → RunClear (now (dots .entry)) (now (table .entry)) (now (grid .entry)) m from at n
-        (now (gray .entry))) ⌝ }
+    requires { ⌜ RunTest (now dots) (now table) (now grid) m from at n ⌝ }
+    ensures { λ r. ⌜ (r ≡ false → RunClear (now (dots .entry)) (now (table .entry)) (now (grid .entry)) m from at n) ⌝ }
 {
     let mut k: usize = 0;
     while k < n {
-        if takes_swap(gray, dots, table, m, from + k, grid[at + k]) {
+        if lower_swap(dots, table, m, from + k, grid[at + k]) {
             return true;
         }
         k += 1;
@@ -126,7 +122,6 @@ fn any_lower(
 
 // the same, by the sums first: there is seldom one below 0
 fn row_lowers(
-    gray: &[u8],
     dots: &[u8],
     table: &[i32],
     m: usize,
@@ -135,12 +130,11 @@ fn row_lowers(
     at: usize,
     n: usize,
 ) -> bool
-    requires { ⌜ (length (now gray) ≡ length (now dots)) × RunTest (now dots) (now table) (now grid) m from at n ⌝ }
-    ensures { λ r. ⌜ (r ≡ false → RunClear (now (dots .entry)) (now (table .entry)) (now (grid .entry)) m from at n
-        (now (gray .entry))) ⌝ }
+    requires { ⌜ RunTest (now dots) (now table) (now grid) m from at n ⌝ }
+    ensures { λ r. ⌜ (r ≡ false → RunClear (now (dots .entry)) (now (table .entry)) (now (grid .entry)) m from at n) ⌝ }
 {
     if any_below(dots, table, m, from, grid, at, n) {
-        return any_lower(gray, dots, table, m, from, grid, at, n);
+        return any_lower(dots, table, m, from, grid, at, n);
     }
     false
 }
@@ -152,16 +146,14 @@ pub fn may_lower(
     height: usize,
     reach: usize,
     grid: &[i32],
-    gray: &[u8],
     dots: &[u8],
     table: &[i32],
     at: Cell,
 ) -> bool
     requires { ⌜ (at .row < height) × (at .col < width) × (width ≤ 256) × (height ≤ 256) × (reach ≤ 6) ⌝ }
-    requires { ⌜ (length (now gray) ≡ length (now dots)) × Tabled (now dots) (now table)
-        × (length (now dots) ≡ height * width) ⌝ }
+    requires { ⌜ Tabled (now dots) (now table) × (length (now dots) ≡ height * width) ⌝ }
     requires { ⌜ (length (now grid) ≡ gridSize reach) × Small mostWorth (now grid) ⌝ }
-    ensures { λ r. ⌜ (r ≡ false → RowsClear width height reach (now (gray .entry))
+    ensures { λ r. ⌜ (r ≡ false → RowsClear width height reach
         (now (dots .entry)) (now (table .entry)) (now (grid .entry)) (at .row) (at .col)) ⌝ }
 {
     let side = row_length(reach);
@@ -180,7 +172,7 @@ pub fn may_lower(
             return true;
         }
         let first = (y + reach - row) * side;
-        if row_lowers(gray, dots, table, m, from, grid, first, side) {
+        if row_lowers(dots, table, m, from, grid, first, side) {
             return true;
         }
         y += 1;

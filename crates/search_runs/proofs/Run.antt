@@ -1,13 +1,12 @@
 -- Runs of cells where nothing is accepted, as the loops over them go.
 --   raised             a flag that is raised stays raised
 --   worth-held         what an offset is worth, as a local holds it
---   still-fails        a trial that fails by the table fails whatever the gray
 --   sum-fits, unlower  the sum of a trial, of locals: it fits, and where it is not below 0 the trial fails
 --   offset-clear       a run that is clear from cell to cell is clear at that offset
-use mathlib.Core.Bool.{Bool, true, false, not, _&&_, and-false, true≢false}
+use mathlib.Core.Bool.{Bool, true, false, not, and-false, true≢false}
 use mathlib.Core.List.{List}
 use mathlib.Core.Logic.{_⊎_, inl, inr}
-use mathlib.Core.Path.{_≡_, refl, sym, _∙_, ap}
+use mathlib.Core.Path.{_≡_, sym, _∙_, ap}
 use Prim.Native.Nat.{ℕ, _+_, _*_, _-_, _≤_, _<_}
 use native.Mathlib.Nat.{sub-add-cancel, add-mul}
 use native.Mathlib.Omega.{arith}
@@ -20,9 +19,7 @@ use mir.Val.{toZ, ofZ, SFits}
 use Rattle.algebra.proofs.Machine.{Holds, named, of-small, add-fits, add-holds}
 use Rattle.model.specs.Change.{sign}
 use Rattle.model.specs.Error.{cellAt, mostFiltered}
-use Rattle.model.specs.Lock.{locked}
 use Rattle.invariants.specs.Partners.{rowOf, columnOf}
-use Rattle.invariants.specs.Trials.{lowersBy}
 use Rattle.invariants.specs.Window.{Small, mostWorth}
 use Rattle.search_runs.specs.Run.{Fails, SwapsClear, OffsetClear}
 
@@ -41,27 +38,16 @@ pub sum-fits : (difference : ℤ) {worth : ℤ} {bits : ℕ} → natAbs differen
     → Holds w32 bits worth mostWorth → SFits w32 (toZ w32 (ofZ w32 difference) +ℤ toZ w32 bits)
 sum-fits difference small held = add-fits (of-small w32 difference small (lit< tt)) held (lit< tt)
 
--- what fails by the table fails whatever the gray
-pub still-fails : (gray dots : List ℕ) (table : List ℤ) (m n : ℕ) (worth : ℤ)
-    → lowersBy dots table m n worth ≡ false → Fails gray dots table m n worth
-still-fails gray dots table m n worth e = rw e (go (locked gray m) (locked gray n))
-  where
-    go : (a b : Bool) → not a && (not b && false) ≡ false
-    go true b = refl
-    go false true = refl
-    go false false = refl
-
 -- it is not below 0
 pub unlower : (dots : List ℕ) (table : List ℤ) (m n : ℕ) {difference worth : ℤ} {bits : ℕ}
     → (difference ≡ sign dots m *ℤ (getD table m (pos 0) -ℤ getD table n (pos 0)))
     × (natAbs difference ≤ 2 * mostFiltered)
     → Holds w32 bits worth mostWorth
     → ltZ (toZ w32 (ofZ w32 (toZ w32 (ofZ w32 difference) +ℤ toZ w32 bits))) (pos 0) ≡ false
-    → (gray : List ℕ) → Fails gray dots table m n worth
-unlower dots table m n {difference} {worth} (e, small) held f gray =
+    → Fails dots table m n worth
+unlower dots table m n {difference} (e, small) held f =
     let first = named e (of-small w32 difference small (lit< tt)) in
-    still-fails gray dots table m n worth
-    (rw (rw (add-holds first held (lit< tt) .value) at f) (and-false (not (eqb (getD dots m 0) (getD dots n 0)))))
+    rw (rw (add-holds first held (lit< tt) .value) at f) (and-false (not (eqb (getD dots m 0) (getD dots n 0))))
 
 -- ---- a run of cells of a row with its partners
 -- the partner of the k-th cell, counted from that of the first
@@ -72,14 +58,13 @@ there-is w to k x y z h l e f =
     omega arith
 
 -- a run from the cell m on is clear at the offset of that code, its first partner standing at `to`
-pub record ClearAt (width m : ℕ) (gray dots : List ℕ) (table : List ℤ) (code : ℕ) (worth : ℤ) (n : ℕ) : Type 0 where
+pub record ClearAt (width m : ℕ) (dots : List ℕ) (table : List ℤ) (code : ℕ) (worth : ℤ) (n : ℕ) : Type 0 where
   pub to : ℕ
   pub place : to + (6 * width + 6) ≡ m + rowOf code * width + columnOf code
-  pub clear : SwapsClear gray dots table worth m to n
+  pub clear : SwapsClear dots table worth m to n
 
-pub offset-clear : (width : ℕ) {gray dots : List ℕ} {table : List ℤ} (code : ℕ) {worth : ℤ} (row col : ℕ) {n : ℕ}
-    → ClearAt width (cellAt width row col) gray dots table code worth n
-    → OffsetClear width gray dots table code worth row col n
+pub offset-clear : (width : ℕ) {dots : List ℕ} {table : List ℤ} (code : ℕ) {worth : ℤ} (row col : ℕ) {n : ℕ}
+    → ClearAt width (cellAt width row col) dots table code worth n → OffsetClear width dots table code worth row col n
 offset-clear width code row col s =
     let rows = add-mul row (rowOf code) width in
     let e = s .place in

@@ -1,9 +1,9 @@
-// Quick tests of a run of cells by the table, the first without a branch in their inner loops: whether a toggle or a swap
-// is accepted in it. Where none is, the trials in order can be left out. And how many of its cells are locked.
+// Quick tests of a run of cells by the table, mostly without a branch in their inner loops: whether a toggle or a swap
+// lowers the squared error in it, whatever is locked. Where none does, the trials in order can be left out. And how many
+// of its cells are locked.
 ghost use mathlib.Core.Bool.{true, false};
-ghost use mathlib.Core.List.{List};
 ghost use mathlib.Core.Path.{_≡_};
-ghost use Prim.Native.Nat.{ℕ, _+_, _*_, _<_, _≤_};
+ghost use Prim.Native.Nat.{_+_, _*_, _<_, _≤_};
 ghost use lib.IntN.{natAbs};
 ghost use lib.ListN.{length};
 ghost use Rattle.model.specs.Error.{mostFiltered, mostCells};
@@ -13,7 +13,6 @@ ghost use Rattle.search_runs.specs.Run.{Tabled, TogglesClear, SwapsClear
 use model::Cell;
 use search_change::difference;
 use search_change::lower_toggle;
-use search_change::takes_swap;
 use slices::index;
 use slices::is_locked;
 use slices::least;
@@ -59,13 +58,11 @@ pub fn quiet_toggles(peak: i32, dots: &[u8], table: &[i32], from: usize, n: usiz
     n
 }
 
-// whether a swap of one of the n cells from `from` on with the cell as far from `to` lowers the squared error, whatever the
-// gray
+// whether a swap of one of the n cells from `from` on with the cell as far from `to` lowers the squared error
 fn any_swaps(dots: &[u8], table: &[i32], worth: i32, from: usize, to: usize, n: usize) -> bool
     requires { ⌜ Tabled (now dots) (now table) × (natAbs worth ≤ mostWorth) × (n ≤ mostCells) ⌝ }
     requires { ⌜ (from + n ≤ length (now dots)) × (to + n ≤ length (now dots)) ⌝ }
-    ensures { λ r. ⌜ (r ≡ false → (gray : List ℕ)
-        → SwapsClear gray (now (dots .entry)) (now (table .entry)) worth from to n) ⌝ }
+    ensures { λ r. ⌜ (r ≡ false → SwapsClear (now (dots .entry)) (now (table .entry)) worth from to n) ⌝ }
 {
     let mut hits: u32 = 0;
     let mut k: usize = 0;
@@ -83,68 +80,21 @@ fn any_swaps(dots: &[u8], table: &[i32], worth: i32, from: usize, to: usize, n: 
     hits != 0
 }
 
-// the same of cells that are not locked
-fn any_free_swaps(
-    gray: &[u8],
-    dots: &[u8],
-    table: &[i32],
-    worth: i32,
-    from: usize,
-    to: usize,
-    n: usize,
-) -> bool
-    requires { ⌜ (length (now gray) ≡ length (now dots)) × Tabled (now dots) (now table) × (natAbs worth ≤ mostWorth) ⌝ }
-    requires { ⌜ (from + n ≤ length (now dots)) × (to + n ≤ length (now dots)) ⌝ }
-    ensures { λ r. ⌜ (r ≡ false → SwapsClear (now (gray .entry)) (now (dots .entry)) (now (table .entry)) worth from to n) ⌝ }
-{
-    let mut k: usize = 0;
-    while k < n {
-        if takes_swap(gray, dots, table, from + k, to + k, worth) {
-            return true;
-        }
-        k += 1;
-    }
-    false
-}
-
-// the same, by the quicker test first: there is seldom one
-fn run_swaps(
-    gray: &[u8],
-    dots: &[u8],
-    table: &[i32],
-    worth: i32,
-    from: usize,
-    to: usize,
-    n: usize,
-) -> bool
-    requires { ⌜ (length (now gray) ≡ length (now dots)) × Tabled (now dots) (now table)
-        × (natAbs worth ≤ mostWorth) × (n ≤ mostCells) ⌝ }
-    requires { ⌜ (from + n ≤ length (now dots)) × (to + n ≤ length (now dots)) ⌝ }
-    ensures { λ r. ⌜ (r ≡ false → SwapsClear (now (gray .entry)) (now (dots .entry)) (now (table .entry)) worth from to n) ⌝ }
-{
-    if any_swaps(dots, table, worth, from, to, n) {
-        return any_free_swaps(gray, dots, table, worth, from, to, n);
-    }
-    false
-}
-
 // Whether no swap of one of the n cells of a row from `at` on, with a partner at one of the offsets, lowers the squared
 // error. Where a run of partners is not whole on the plate it answers false.
 pub fn swaps_clear(
     width: usize,
     codes: &[u8],
     worths: &[i32],
-    gray: &[u8],
     dots: &[u8],
     table: &[i32],
     at: Cell,
     n: usize,
 ) -> bool
     requires { ⌜ (at .row < 256) × (at .col < width) × (width ≤ 256) × (n ≤ 16) ⌝ }
-    requires { ⌜ (length (now gray) ≡ length (now dots)) × Tabled (now dots) (now table)
-        × (cellOf width at + n ≤ length (now dots)) ⌝ }
+    requires { ⌜ Tabled (now dots) (now table) × (cellOf width at + n ≤ length (now dots)) ⌝ }
     requires { ⌜ (length (now worths) ≡ length (now codes)) × Small mostWorth (now worths) ⌝ }
-    ensures { λ r. ⌜ (r ≡ true → CellsClear width (now (gray .entry)) (now (dots .entry)) (now (table .entry))
+    ensures { λ r. ⌜ (r ≡ true → CellsClear width (now (dots .entry)) (now (table .entry))
         (now (codes .entry)) (now (worths .entry)) (at .row) (at .col) n) ⌝ }
 {
     let m = index(width, at);
@@ -161,7 +111,7 @@ pub fn swaps_clear(
         if dots.len() < to + n {
             return false;
         }
-        if run_swaps(gray, dots, table, worths[j], m, to, n) {
+        if any_swaps(dots, table, worths[j], m, to, n) {
             return false;
         }
     }

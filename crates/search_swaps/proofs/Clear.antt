@@ -4,7 +4,7 @@
 --   none-lowers    of one cell, in the rows around it
 --   run-failed     of a run of cells: every trial at each of them fails
 --   run-locked     of a run of locked cells
-use mathlib.Core.Bool.{Bool, true, false, _&&_}
+use mathlib.Core.Bool.{Bool, true, false, not, _&&_}
 use mathlib.Core.List.{List, [], _∷_}
 use mathlib.Core.Path.{_≡_, refl, sym, _∙_, subst}
 use Prim.Native.Nat.{ℕ, _+_, _*_, _-_, _≤_, _<_}
@@ -23,7 +23,7 @@ use Rattle.model.specs.Lock.{locked}
 use Rattle.model.specs.Partners.{Offset, lands, partner, Within}
 use Rattle.invariants.specs.Partners.{offsetOf, biased, rowOf, columnOf, worthAt, HoldsOffsets, HoldsWorths}
 use Rattle.invariants.specs.Plate.{Judged, OnPlate, cellOf}
-use Rattle.invariants.specs.Trials.{lowersAt, Failed}
+use Rattle.invariants.specs.Trials.{lowersAt, takesBy, Failed}
 use Rattle.invariants.proofs.Plate.{judged-small}
 use Rattle.invariants.proofs.Trials.{failed-all}
 use Rattle.model.proofs.Partners.{entry-within}
@@ -75,6 +75,16 @@ entry-is r c reach grid g down right y x =
     ∙ rw (cell-row {y = j} short, cell-column j short, le-leb i (2 * reach) (omega arith), row, column) refl
 
 -- ---- the partner at an offset is not taken
+-- where a trial fails by the table it is not taken, whatever is locked
+still-fails : (gray dots : List ℕ) (table : List ℤ) (m n : ℕ) (worth : ℤ) → Fails dots table m n worth
+    → takesBy gray dots table m n worth ≡ false
+still-fails gray dots table m n worth e = rw e (go (locked gray m) (locked gray n))
+  where
+    go : (a b : Bool) → not a && (not b && false) ≡ false
+    go true b = refl
+    go false true = refl
+    go false false = refl
+
 module _ {m : Measures} {psf gray : List ℕ} {c : List ℤ} {dots : List ℕ} {table : List ℤ}
     (j : Judged m psf gray c dots table) {at : Cell} (on : OnPlate m at) where
   abbrev Missed : ℕ → ℕ → Type 0
@@ -83,7 +93,7 @@ module _ {m : Measures} {psf gray : List ℕ} {c : List ℤ} {dots : List ℕ} {
   -- where the trial by the table fails if the partner lands
   by-table : (down right : ℕ)
       → (6 ≤ at .row + down → 6 ≤ at .col + right → at .row + down - 6 < m .height
-      → Fails gray dots table (cellOf (m .width) at) (cellAt (m .width) (at .row + down - 6) (at .col + right - 6))
+      → Fails dots table (cellOf (m .width) at) (cellAt (m .width) (at .row + down - 6) (at .col + right - 6))
       (worthAt (m .radius) c down right))
       → Missed down right
   by-table down right fails = go (lands (m .width) (m .height) (cellOf (m .width) at) (biased down right)) refl
@@ -95,11 +105,11 @@ module _ {m : Measures} {psf gray : List ℕ} {c : List ℤ} {dots : List ℕ} {
           = landed (m .width) (m .height) (at .row) (at .col) (on .col-below) down right l in
           sym (trial-is j on down right l
           (sym (stands (m .width) (m .height) (at .row) (at .col) (on .col-below) down right l)) refl
-          (sym (fails top first bottom)))
+          (sym (still-fails gray dots table _ _ _ (fails top first bottom))))
 
   -- in rows where every trial fails
   pub none-lowers : {reach : ℕ} {grid : List ℤ} → GridFits (m .radius) c reach grid
-      → RowsClear (m .width) (m .height) reach gray dots table grid (at .row) (at .col) → (down right : ℕ)
+      → RowsClear (m .width) (m .height) reach dots table grid (at .row) (at .col) → (down right : ℕ)
       → (6 ≤ down + reach) × (down ≤ 6 + reach) → (6 ≤ right + reach) × (right ≤ 6 + reach)
       → lowersAt (targetFor m psf gray) dots (cellOf (m .width) at) (biased down right) ≡ false
   none-lowers {reach} {grid} g clear down right y x =
@@ -114,7 +124,7 @@ module _ {m : Measures} {psf gray : List ℕ} {c : List ℤ} {dots : List ℕ} {
 pub run-failed : {m : Measures} {psf gray : List ℕ} {c : List ℤ} {dots : List ℕ} {table : List ℤ}
     → Judged m psf gray c dots table → {at : Cell} → OnPlate m at → {reach : ℕ} {codes : List ℕ} {worths : List ℤ}
     → HoldsOffsets reach codes → HoldsWorths (m .radius) c codes worths → {run : ℕ} → at .col + run ≤ m .width
-    → CellsClear (m .width) gray dots table codes worths (at .row) (at .col) run
+    → CellsClear (m .width) dots table codes worths (at .row) (at .col) run
     → (i : ℕ) → i < run → Failed (targetFor m psf gray) reach dots (cellOf (m .width) at + i) (length codes)
 run-failed {m} {psf} {gray} {dots} j {at} on {reach} {codes} held worth short clear i l =
     subst (λ q. Failed (targetFor m psf gray) reach dots q (length codes)) (sym there)

@@ -91,7 +91,7 @@ fn clear_swaps(
         return 0;
     }
     let n = run_length(measures.width, at);
-    if swaps_clear(measures.width, codes, worths, gray, dots, table, at, n) {
+    if swaps_clear(measures.width, codes, worths, dots, table, at, n) {
         return n;
     }
     0
@@ -120,7 +120,6 @@ fn first_trial(
         measures.height,
         measures.reach,
         grid,
-        gray,
         dots,
         table,
         at,

@@ -1,8 +1,7 @@
 -- `search_prune::any_below` meets its contract: as long as nothing was found, no sum so far is below 0.
 use mathlib.Core.Bool.{false}
-use mathlib.Core.List.{List}
 use mathlib.Core.Path.{_≡_}
-use Prim.Native.Nat.{ℕ, _+_, _-_, _≤_}
+use Prim.Native.Nat.{_+_, _-_, _≤_}
 use native.Mathlib.Omega.{arith}
 use borrow.Author.Count.{below-none, below-more}
 use Rattle.search_runs.proofs.Run.{raised, worth-held, sum-fits, unlower}
@@ -12,13 +11,13 @@ use Rattle.search_prune.proofs.any_below.Tie as tie
 
 abbrev Inv-loop : tie.InvT-loop
 Inv-loop dots table m from grid at n any₀ k₀ any k =
-    (any ≡ false → (gray : List ℕ) → RunClear dots table grid m from at k gray) × (k ≤ n)
+    (any ≡ false → RunClear dots table grid m from at k) × (k ≤ n)
 
 abbrev μ-loop : tie.MeasureT-loop
 μ-loop dots table m from grid at n any₀ k₀ any k = n - k
 
 loop-holds : tie.Need-loop-holds Inv-loop μ-loop
-loop-holds c = (λ e gray. record { each = below-none _ }, omega arith)
+loop-holds c = (λ e. record { each = below-none _ }, omega arith)
 
 add-difference : tie.Need-add-difference Inv-loop μ-loop
 add-difference c = omega arith
@@ -54,22 +53,22 @@ loop-again c =
     let s : tie.Start Inv-loop μ-loop = search in
     let l : tie.At-loop Inv-loop μ-loop = search in
     let d : tie.After-difference Inv-loop μ-loop = search in (
-      raised (c .if1 .came) (l .loop .inv .0) (λ w r gray.
+      raised (c .if1 .came) (l .loop .inv .0) (λ w r.
           record {
             each =
-                below-more _ _ (r gray .each)
+                below-more _ _ (r .each)
                 (unlower (s .args .dots .now) (s .args .table .now) (s .args .m) (s .args .from + l .loop .k)
-                (d .difference .ensures) (worth-held (s .pre .small) (s .args .at + l .loop .k)) (w .left) gray);
+                (d .difference .ensures) (worth-held (s .pre .small) (s .args .at + l .loop .k)) (w .left));
           }),
       omega arith,
     )
 
 returns : tie.Need-returns Inv-loop μ-loop
-returns c e gray =
+returns c e =
     let s : tie.Start Inv-loop μ-loop = search in
     let l : tie.At-loop Inv-loop μ-loop = search in
     let done : l .loop .k ≡ s .args .n = omega arith in
-    rw done at (l .loop .inv .0 e gray)
+    rw done at (l .loop .inv .0 e)
 
 pub any-below-spec : {M : Type 1} → statement M
 any-below-spec =

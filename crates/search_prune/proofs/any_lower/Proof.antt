@@ -9,41 +9,38 @@ use lib.ListN.{getD}
 use mir.Syntax.{w32}
 use mir.Val.{toZ, ofZ}
 use Rattle.algebra.proofs.Machine.{size-of}
-use Rattle.invariants.specs.Trials.{takesBy}
+use Rattle.invariants.specs.Trials.{lowersBy}
 use Rattle.search_runs.proofs.Run.{worth-held}
 use Rattle.search_prune.specs.Grid.{RunClear}
 use Rattle.search_prune.proofs.any_lower.Statement.{statement}
 use Rattle.search_prune.proofs.any_lower.Tie as tie
 
 abbrev Inv-loop : tie.InvT-loop
-Inv-loop gray dots table m from grid at n k₀ k = RunClear dots table grid m from at k gray × (k ≤ n)
+Inv-loop dots table m from grid at n k₀ k = RunClear dots table grid m from at k × (k ≤ n)
 
 abbrev μ-loop : tie.MeasureT-loop
-μ-loop gray dots table m from grid at n k₀ k = n - k
+μ-loop dots table m from grid at n k₀ k = n - k
 
 loop-holds : tie.Need-loop-holds Inv-loop μ-loop
 loop-holds c = (record { each = below-none _ }, omega arith)
 
-add-takes-swap : tie.Need-add-takes-swap Inv-loop μ-loop
-add-takes-swap c = omega arith
+add-lower-swap : tie.Need-add-lower-swap Inv-loop μ-loop
+add-lower-swap c = omega arith
 
-add-takes-swap-2 : tie.Need-add-takes-swap-2 Inv-loop μ-loop
-add-takes-swap-2 c = omega arith
+add-lower-swap-2 : tie.Need-add-lower-swap-2 Inv-loop μ-loop
+add-lower-swap-2 c = omega arith
 
-mul-takes-swap : tie.Need-mul-takes-swap Inv-loop μ-loop
-mul-takes-swap c = omega arith
+mul-lower-swap : tie.Need-mul-lower-swap Inv-loop μ-loop
+mul-lower-swap c = omega arith
 
-shared-slice-copy-out-takes-swap : tie.Need-shared-slice-copy-out-takes-swap Inv-loop μ-loop
-shared-slice-copy-out-takes-swap c = omega arith
+shared-slice-copy-out-lower-swap : tie.Need-shared-slice-copy-out-lower-swap Inv-loop μ-loop
+shared-slice-copy-out-lower-swap c = omega arith
 
-takes-swap-requires : tie.Need-takes-swap-requires Inv-loop μ-loop
-takes-swap-requires c κs =
+lower-swap-requires : tie.Need-lower-swap-requires Inv-loop μ-loop
+lower-swap-requires c κs =
     let s : tie.Start Inv-loop μ-loop = search in
     let l : tie.At-loop Inv-loop μ-loop = search in
-    let (long, test) = s .pre in (
-      (omega arith, omega arith, test .tabled .long),
-      (long, test .tabled .small, size-of (worth-held (test .small) (s .args .at + l .loop .k))),
-    )
+    ((omega arith, omega arith, s .pre .tabled .long), (s .pre .tabled .small, size-of (worth-held (s .pre .small) (s .args .at + l .loop .k))))
 
 returns : tie.Need-returns Inv-loop μ-loop
 returns c e = absurd (true≢false e)
@@ -58,14 +55,14 @@ loop-again : tie.Need-loop-again Inv-loop μ-loop
 loop-again c =
     let s : tie.Start Inv-loop μ-loop = search in
     let l : tie.At-loop Inv-loop μ-loop = search in
-    let t : tie.After-takes-swap Inv-loop μ-loop = search in
+    let t : tie.After-lower-swap Inv-loop μ-loop = search in
     let a = s .args in
     let z = toZ w32 (ofZ w32 (getD (a .grid .now) (a .at + l .loop .k) (pos 0))) in
-    let told : t .takes-swap .result ≡ takesBy (a .gray .now) (a .dots .now) (a .table .now) (a .m) (a .from + l .loop .k) z =
-    t .takes-swap .ensures in (
+    let told : t .lower-swap .result ≡ lowersBy (a .dots .now) (a .table .now) (a .m) (a .from + l .loop .k) z =
+    t .lower-swap .ensures in (
       record {
         each =
-            below-more _ _ (l .loop .inv .0 .each) (rw (worth-held (s .pre .1 .small) (s .args .at + l .loop .k) .value) at (sym told ∙ c .if1 .left));
+            below-more _ _ (l .loop .inv .0 .each) (rw (worth-held (s .pre .small) (s .args .at + l .loop .k) .value) at (sym told ∙ c .if1 .left));
       },
       omega arith,
     )
@@ -84,11 +81,11 @@ any-lower-spec =
     Inv-loop
     μ-loop
     loop-holds
-    add-takes-swap
-    add-takes-swap-2
-    mul-takes-swap
-    shared-slice-copy-out-takes-swap
-    takes-swap-requires
+    add-lower-swap
+    add-lower-swap-2
+    mul-lower-swap
+    shared-slice-copy-out-lower-swap
+    lower-swap-requires
     returns
     add-k
     loop-less

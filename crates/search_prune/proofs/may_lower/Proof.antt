@@ -13,11 +13,11 @@ use Rattle.search_prune.proofs.may_lower.Statement.{statement}
 use Rattle.search_prune.proofs.may_lower.Tie as tie
 
 abbrev Inv-loop : tie.InvT-loop
-Inv-loop width height reach grid gray dots table side row col m bottom y₀ y =
-    (row ≤ y + reach) × RowsClear width y reach gray dots table grid row col
+Inv-loop width height reach grid dots table side row col m bottom y₀ y =
+    (row ≤ y + reach) × RowsClear width y reach dots table grid row col
 
 abbrev μ-loop : tie.MeasureT-loop
-μ-loop width height reach grid gray dots table side row col m bottom y₀ y = bottom - y
+μ-loop width height reach grid dots table side row col m bottom y₀ y = bottom - y
 
 row-length-requires : tie.Need-row-length-requires Inv-loop μ-loop
 row-length-requires c κs = search needs
@@ -77,16 +77,14 @@ row-lowers-requires c κs =
     let r : tie.After-row-length Inv-loop μ-loop = search in
     let p : tie.After-index Inv-loop μ-loop = search in
     let l : tie.At-loop Inv-loop μ-loop = search in
-    let last : l .loop .y + s .args .reach - s .args .at .row < 2 * s .args .reach + 1 = omega arith in (
-      s .pre .1 .0 .0,
-      record {
-        tabled = s .pre .1 .0 .1;
-        here = omega (arith, p .index .ensures, cell< (s .pre .0 .0) (s .pre .0 .1));
-        there = omega arith;
-        laid = rw (r .row-length .ensures) (omega (arith, rows-apart (rowLength (s .args .reach)) last));
-        small = s .pre .1 .1 .1;
-      },
-    )
+    let last : l .loop .y + s .args .reach - s .args .at .row < 2 * s .args .reach + 1 = omega arith in
+    record {
+      tabled = s .pre .1 .0 .0;
+      here = omega (arith, p .index .ensures, cell< (s .pre .0 .0) (s .pre .0 .1));
+      there = omega arith;
+      laid = rw (r .row-length .ensures) (omega (arith, rows-apart (rowLength (s .args .reach)) last));
+      small = s .pre .1 .1 .1;
+    }
 
 returns-3 : tie.Need-returns-3 Inv-loop μ-loop
 returns-3 c e = absurd (true≢false e)

@@ -1,8 +1,7 @@
 -- `search_runs::any_swaps` meets its contract: as long as nothing was found, every trial so far failed.
-use mathlib.Core.List.{List}
 use mathlib.Core.Logic.{⊎-elim}
 use mathlib.Core.Path.{_≡_, refl, sym, _∙_}
-use Prim.Native.Nat.{ℕ, _+_, _-_, _≤_}
+use Prim.Native.Nat.{_+_, _-_, _≤_}
 use native.Mathlib.Omega.{arith}
 use borrow.Author.Count.{below-none, below-more}
 use borrow.Author.Tests.{eq-eqb, eqb-true, not-false}
@@ -12,19 +11,19 @@ use mir.Val.{toZ, ofZ}
 use Rattle.algebra.proofs.Machine.{Holds, of-small, size-of}
 use Rattle.invariants.specs.Window.{mostWorth}
 use Rattle.search_runs.specs.Run.{Fails, SwapsClear}
-use Rattle.search_runs.proofs.Run.{still-fails, sum-fits, unlower}
+use Rattle.search_runs.proofs.Run.{sum-fits, unlower}
 use Rattle.search_runs.proofs.any_swaps.Statement.{statement}
 use Rattle.search_runs.proofs.any_swaps.Tie as tie
 
 abbrev Inv-loop : tie.InvT-loop
 Inv-loop dots table worth from to n hits₀ k₀ hits k =
-    (hits ≡ 0 → (gray : List ℕ) → SwapsClear gray dots table (toZ w32 worth) from to k) × (hits ≤ k) × (k ≤ n)
+    (hits ≡ 0 → SwapsClear dots table (toZ w32 worth) from to k) × (hits ≤ k) × (k ≤ n)
 
 abbrev μ-loop : tie.MeasureT-loop
 μ-loop dots table worth from to n hits₀ k₀ hits k = n - k
 
 loop-holds : tie.Need-loop-holds Inv-loop μ-loop
-loop-holds c = (λ e gray. record { each = below-none _ }, omega arith, omega arith)
+loop-holds c = (λ e. record { each = below-none _ }, omega arith, omega arith)
 
 add-here : tie.Need-add-here Inv-loop μ-loop
 add-here c = omega arith
@@ -76,13 +75,13 @@ loop-again c =
     let z = toZ w32 (ofZ w32 (s .args .worth)) in
     let m = s .args .from + l .loop .k in
     let n = s .args .to + l .loop .k in
-    let more : ((gray : List ℕ) → Fails gray dots table m n z) → l .loop .hits ≡ 0
-    → (gray : List ℕ) → SwapsClear gray dots table z (s .args .from) (s .args .to) (l .loop .k + 1) =
-    λ f e gray. record { each = below-more _ _ (l .loop .inv .0 e gray .each) (f gray) } in
+    let more : Fails dots table m n z → l .loop .hits ≡ 0
+    → SwapsClear dots table z (s .args .from) (s .args .to) (l .loop .k + 1) =
+    λ f e. record { each = below-more _ _ (l .loop .inv .0 e .each) f } in
     ⊎-elim
     (λ w. (λ e. absurd (omega (arith, w .2, e)), omega (arith, w .2), omega arith))
     (⊎-elim
-    (λ w. (λ e. more (λ gray. still-fails gray dots table m n z (rw (eq-eqb _ _ (w .1 .left)) refl)) (sym (w .2) ∙ e), omega (arith, w .2), omega arith))
+    (λ w. (λ e. more (rw (eq-eqb _ _ (w .1 .left)) refl) (sym (w .2) ∙ e), omega (arith, w .2), omega arith))
     (λ w. (
       λ e. more (unlower dots table m n (v .difference .ensures) (worth s) (w .0 .left)) (sym (w .1) ∙ e),
       omega (arith, w .1),
@@ -91,12 +90,12 @@ loop-again c =
     (c .if1 .came)
 
 returns : tie.Need-returns Inv-loop μ-loop
-returns c e gray =
+returns c e =
     let s : tie.Start Inv-loop μ-loop = search in
     let l : tie.At-loop Inv-loop μ-loop = search in
     let done : l .loop .k ≡ s .args .n = omega arith in
     rw (of-small w32 (s .args .worth) (s .pre .0 .1) (lit< tt) .value, done) at
-    (l .loop .inv .0 (eqb-true _ 0 (not-false _ e)) gray)
+    (l .loop .inv .0 (eqb-true _ 0 (not-false _ e)))
 
 pub any-swaps-spec : {M : Type 1} → statement M
 any-swaps-spec =

@@ -15,12 +15,12 @@ use Rattle.search_runs.proofs.swaps_clear.Statement.{statement}
 use Rattle.search_runs.proofs.swaps_clear.Tie as tie
 
 abbrev Inv-loop : tie.InvT-loop
-Inv-loop width codes worths gray dots table n m back j₀ j =
-    ((i : ℕ) → j ≤ i → i < length codes → ClearAt width m gray dots table (getD codes i 0) (getD worths i (pos 0)) n)
+Inv-loop width codes worths dots table n m back j₀ j =
+    ((i : ℕ) → j ≤ i → i < length codes → ClearAt width m dots table (getD codes i 0) (getD worths i (pos 0)) n)
     × (j ≤ length codes)
 
 abbrev μ-loop : tie.MeasureT-loop
-μ-loop width codes worths gray dots table n m back j₀ j = j
+μ-loop width codes worths dots table n m back j₀ j = j
 
 less-not : {i n : ℕ} → n ≤ i → i < n → ⊥
 less-not h g = omega arith
@@ -54,12 +54,12 @@ shared-slice-read-code c = omega arith
 cast-place : tie.Need-cast-place Inv-loop μ-loop
 cast-place c =
     let l : tie.At-loop Inv-loop μ-loop = search in
-    record { fits = omega (arith, c .shared-slice-known4 .given (l .loop .j - 1)) }
+    record { fits = omega (arith, c .shared-slice-known3 .given (l .loop .j - 1)) }
 
 mul-place : tie.Need-mul-place Inv-loop μ-loop
 mul-place c =
     let l : tie.At-loop Inv-loop μ-loop = search in
-    factors-fit 15 256 (omega (arith, c .shared-slice-known4 .given (l .loop .j - 1))) (omega arith) tt
+    factors-fit 15 256 (omega (arith, c .shared-slice-known3 .given (l .loop .j - 1))) (omega arith) tt
 
 -- the place of the first partner, 6 rows and 6 columns further on, is small
 place-small : (s : tie.Start Inv-loop μ-loop) (m j : ℕ) → let code = getD (s .args .codes .now) j 0 in
@@ -76,20 +76,20 @@ add-place c =
     let s : tie.Start Inv-loop μ-loop = search in
     let l : tie.At-loop Inv-loop μ-loop = search in
     let p : tie.After-index Inv-loop μ-loop = search in
-    let byte = c .shared-slice-known4 .given (l .loop .j - 1) in
+    let byte = c .shared-slice-known3 .given (l .loop .j - 1) in
     record { fits = omega (arith, place-small s _ (l .loop .j - 1) (p .index .ensures) (omega arith)) }
 
 cast-place-2 : tie.Need-cast-place-2 Inv-loop μ-loop
 cast-place-2 c =
     let l : tie.At-loop Inv-loop μ-loop = search in
-    record { fits = omega (arith, c .shared-slice-known4 .given (l .loop .j - 1)) }
+    record { fits = omega (arith, c .shared-slice-known3 .given (l .loop .j - 1)) }
 
 add-place-2 : tie.Need-add-place-2 Inv-loop μ-loop
 add-place-2 c =
     let s : tie.Start Inv-loop μ-loop = search in
     let l : tie.At-loop Inv-loop μ-loop = search in
     let p : tie.After-index Inv-loop μ-loop = search in
-    let byte = c .shared-slice-known4 .given (l .loop .j - 1) in
+    let byte = c .shared-slice-known3 .given (l .loop .j - 1) in
     record { fits = omega (arith, place-small s _ (l .loop .j - 1) (p .index .ensures) (omega arith)) }
 
 returns : tie.Need-returns Inv-loop μ-loop
@@ -100,25 +100,25 @@ add-if2 c =
     let s : tie.Start Inv-loop μ-loop = search in
     let l : tie.At-loop Inv-loop μ-loop = search in
     let p : tie.After-index Inv-loop μ-loop = search in
-    let b : tie.After-shared-slice-known4 Inv-loop μ-loop = search in
-    let byte = b .shared-slice-known4 .given (l .loop .j - 1) in
+    let b : tie.After-shared-slice-known3 Inv-loop μ-loop = search in
+    let byte = b .shared-slice-known3 .given (l .loop .j - 1) in
     record { fits = omega (arith, place-small s _ (l .loop .j - 1) (p .index .ensures) (omega arith)) }
 
 returns-2 : tie.Need-returns-2 Inv-loop μ-loop
 returns-2 c e = absurd (true≢false (sym e))
 
-mul-run-swaps : tie.Need-mul-run-swaps Inv-loop μ-loop
-mul-run-swaps c = omega arith
+mul-any-swaps : tie.Need-mul-any-swaps Inv-loop μ-loop
+mul-any-swaps c = omega arith
 
-shared-slice-copy-out-run-swaps : tie.Need-shared-slice-copy-out-run-swaps Inv-loop μ-loop
-shared-slice-copy-out-run-swaps c = omega arith
+shared-slice-copy-out-any-swaps : tie.Need-shared-slice-copy-out-any-swaps Inv-loop μ-loop
+shared-slice-copy-out-any-swaps c = omega arith
 
-run-swaps-requires : tie.Need-run-swaps-requires Inv-loop μ-loop
-run-swaps-requires c κs =
+any-swaps-requires : tie.Need-any-swaps-requires Inv-loop μ-loop
+any-swaps-requires c κs =
     let s : tie.Start Inv-loop μ-loop = search in
     let l : tie.At-loop Inv-loop μ-loop = search in
     let p : tie.After-index Inv-loop μ-loop = search in (
-      (s .pre .1 .0 .0, s .pre .1 .0 .1, size-of (worth-held (s .pre .1 .1 .1) (l .loop .j - 1)), omega arith),
+      (s .pre .1 .0 .0, size-of (worth-held (s .pre .1 .1 .1) (l .loop .j - 1)), omega arith),
       (omega (arith, p .index .ensures), omega arith),
     )
 
@@ -132,12 +132,12 @@ loop-again : tie.Need-loop-again Inv-loop μ-loop
 loop-again c =
     let s : tie.Start Inv-loop μ-loop = search in
     let l : tie.At-loop Inv-loop μ-loop = search in
-    let t : tie.After-run-swaps Inv-loop μ-loop = search in (
+    let t : tie.After-any-swaps Inv-loop μ-loop = search in (
       one-more _ (l .loop .j) _ (l .loop .inv .0)
           (record {
             to = _;
             place = omega arith;
-            clear = rw (worth-held (s .pre .1 .1 .1) (l .loop .j - 1) .value) at (t .run-swaps .ensures (c .if3 .left));
+            clear = rw (worth-held (s .pre .1 .1 .1) (l .loop .j - 1) .value) at (t .any-swaps .ensures (c .if3 .left));
           }),
       omega arith,
     )
@@ -173,9 +173,9 @@ swaps-clear-spec =
     returns
     add-if2
     returns-2
-    mul-run-swaps
-    shared-slice-copy-out-run-swaps
-    run-swaps-requires
+    mul-any-swaps
+    shared-slice-copy-out-any-swaps
+    any-swaps-requires
     returns-3
     loop-less
     loop-again

@@ -1,6 +1,6 @@
 -- `search_swaps::clear_swaps` meets its contract: at locked cells no trial is made, and where the test finds
 -- nothing, every trial in the run fails.
-use mathlib.Core.Path.{sym, _∙_, subst}
+use mathlib.Core.Path.{sym, subst}
 use Prim.Native.Nat.{ℕ, _+_, _*_, _≤_, _<_}
 use native.Mathlib.Nat.{not-suc-le-zero}
 use native.Mathlib.Omega.{arith}
@@ -79,11 +79,7 @@ swaps-clear-requires c κs =
     let worths = s .pre .1 .1 in (
       (row, col, wide, few),
       (
-        (
-          f .gray-length ∙ sym (f .dots-length),
-          judged-tabled (judged s),
-          omega (arith, room s _ short, f .dots-length),
-        ),
+        (judged-tabled (judged s), omega (arith, room s _ short, f .dots-length)),
         (worths .long, worths-small _ (judged s .kernel .small) worths),
       ),
     )

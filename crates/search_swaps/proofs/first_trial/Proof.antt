@@ -1,6 +1,5 @@
 -- `search_swaps::first_trial` meets its contract: from the first offset on all is tried, and where the rows in reach
 -- are clear every trial fails.
-use mathlib.Core.Path.{sym, _∙_}
 use native.Mathlib.Nat.{le-refl, not-suc-le-zero}
 use native.Mathlib.Omega.{arith}
 use Rattle.invariants.proofs.Trials.{failed-all}
@@ -15,7 +14,7 @@ may-lower-requires c κs =
     let grid = s .pre .1 .1 in
     let f = judged .plate .halftone in (
       (on .row-below, on .col-below, f .wide .1, f .high .1, grid .near),
-      ((f .gray-length ∙ sym (f .dots-length), judged-tabled judged, f .dots-length), (grid .long, grid .small)),
+      ((judged-tabled judged, f .dots-length), (grid .long, grid .small)),
     )
 
 returns : tie.Need-returns
