@@ -17,7 +17,7 @@ use Rattle.model.specs.declared.Measures.{Measures}
 use Rattle.model.specs.Psf.{total}
 use Rattle.model.specs.Error.{squaredError, Halftone}
 use Rattle.model.specs.Refusal.{Refusal, firstOf, above, badSize, badRadius, badReach, badKind, badLength, badSum}
-use Rattle.model.specs.Lock.{contradiction, LocksHold}
+use Rattle.model.specs.Lock.{contradiction}
 use Rattle.model.specs.Refusal.{badGiven, badGivenLocks, startRefusal}
 use Rattle.model.specs.Ledger.{dotTotal, freshStats}
 use Rattle.model.specs.Reference.{Reference, statsOf}

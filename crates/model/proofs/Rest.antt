@@ -4,13 +4,12 @@
 --   rest-by      where nothing that the scans attempt lowers E
 --   rest-calm    at rest, nothing that the scans attempt lowers E
 --   rest-tested  where a test that can be computed says so
-use mathlib.Core.Bool.{Bool, true, false, true≢false, not, _&&_, and-eq-true-iff}
+use mathlib.Core.Bool.{Bool, true, false, true≢false, not, _&&_}
 use mathlib.Core.List.{List, [], _∷_, List·Memᴰ as In, List·Memᴰ·head as here, List·Memᴰ·tail as there}
-use mathlib.Core.Path.{_≡_, refl, sym, _∙_, ap, ap₂, subst}
+use mathlib.Core.Path.{_≡_, refl, sym, _∙_, ap, subst}
 use Prim.Native.Nat.{ℕ, _/_, _%_, _≤_, _<_}
 use native.Mathlib.Omega.{arith}
-use borrow.Author.Tests.{eqb-false, ne-eqb, not-true}
-use lib.Dec.{eqb}
+use borrow.Author.Tests.{ne-eqb}
 use lib.IntN.{ℤ, pos, negsuc, negℤ, _+ℤ_, _*ℤ_}
 use lib.Signed.{_≤ℤ_}
 use lib.ListN.{getD}
@@ -22,14 +21,14 @@ use Rattle.model.specs.Error.{Target, cells, filteredError, filteredErro
 use Rattle.model.specs.Lock.{locked, Free}
 use Rattle.model.specs.Refusal.{gap}
 use Rattle.model.specs.Change.{signOf, sign, toggleSum, Move, toggle, swap, lowers}
-use Rattle.model.specs.Partners.{Offset, offsets, Within, lands, partner}
+use Rattle.model.specs.Partners.{Offset, offsets, Within, partner}
 use Rattle.model.specs.Scan.{toggles, exchangeable, suits, swapsBy, swaps}
 use Rattle.model.specs.Lists.{Rest}
 use Rattle.model.proofs.Basic.{pick-cases, getD-tabulate, all-below}
 use Rattle.model.proofs.State.{at-least}
 use Rattle.model.proofs.Change.{toggle-change}
 use Rattle.model.proofs.Partners.{offsets-ordered, lands-on, lands-within, IsPartner, partners-cover}
-use Rattle.model.proofs.Scan.{Suited, suits-so, so-suits, Calm}
+use Rattle.model.proofs.Scan.{suits-so, so-suits, Calm}
 
 -- what is known of all swaps with the partners, of one
 module _ (t : Target) (dots : List ℕ) (m : ℕ) (P : Move → Type 0) where

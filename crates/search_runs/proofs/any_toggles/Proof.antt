@@ -1,12 +1,12 @@
 -- `search_runs::any_toggles` meets its contract: as long as nothing was found, no toggle so far lowers E.
 use mathlib.Core.Bool.{false}
 use mathlib.Core.Path.{_≡_, sym, _∙_}
-use Prim.Native.Nat.{_+_, _-_, _≤_}
+use Prim.Native.Nat.{_-_, _≤_}
 use native.Mathlib.Omega.{arith}
 use borrow.Author.Count.{below-none, below-more}
 use lib.Dec.{lit<}
 use mir.Syntax.{w32}
-use mir.Val.{toZ, ofZ}
+use mir.Val.{toZ}
 use Rattle.algebra.proofs.Machine.{of-small}
 use Rattle.search_change.proofs.Signs.{peak-small}
 use Rattle.search_runs.specs.Run.{TogglesClear}

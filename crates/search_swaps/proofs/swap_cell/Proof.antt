@@ -1,6 +1,6 @@
 -- `search_swaps::swap_cell` meets its contract: the partner found stands on the plate, its dot unlike, and the swap with
 -- it is the one that a scan accepts there.
-use mathlib.Core.Bool.{true, false, true≢false, and-eq-true-iff}
+use mathlib.Core.Bool.{true, true≢false, and-eq-true-iff}
 use mathlib.Core.Path.{_≡_, sym, _∙_, ap, subst}
 use Prim.Native.Nat.{ℕ, _+_, _-_, _≤_, _<_}
 use native.Mathlib.Omega.{arith}
@@ -15,10 +15,9 @@ use Rattle.model.proofs.Attempts.{entry-stats}
 use Rattle.model.proofs.Scan.{Suited, suits-so}
 use Rattle.invariants.specs.Partners.{rowOf, columnOf, offsetOf, HoldsOffsets}
 use Rattle.invariants.specs.Plate.{OnPlate, cellOf, Unlike, cellSwap}
-use Rattle.invariants.specs.Trials.{sweepOf, visit, lowersAt}
-use Rattle.invariants.proofs.Loop.{left-none}
+use Rattle.invariants.specs.Trials.{lowersAt}
 use Rattle.invariants.proofs.Plate.{ready-judged}
-use Rattle.invariants.proofs.Scanning.{visit-none, attempt-advances}
+use Rattle.invariants.proofs.Scanning.{attempt-advances}
 use Rattle.invariants.proofs.Trials.{swap-taken}
 use Rattle.search_swaps.proofs.Partner.{landed, stands, partner-on}
 use Rattle.search_swaps.proofs.swap_cell.Statement.{statement}

@@ -1,6 +1,5 @@
 -- `search_toggles::toggle_cell` meets its contract: a locked cell is passed over, and at any other the attempt is the
 -- reference's visit of it.
-use mathlib.Core.Bool.{Bool}
 use mathlib.Core.Path.{_≡_, sym, _∙_, ap, subst}
 use Prim.Native.Nat.{ℕ, _<_}
 use borrow.Author.Needs.{needs}
