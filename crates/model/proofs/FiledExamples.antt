@@ -33,6 +33,7 @@ filed-examples =
       not-at-rest = refl;
       no-fall = refl;
       too-many-on = refl;
+      dot-on-paper = refl;
       zero-before-figure = refl;
       figure-too-large = refl;
       no-figures = refl;

@@ -32,6 +32,8 @@ use Rattle.model.proofs.Interface.{start-over, call-over, over-other-co
 use Rattle.model.proofs.Interface.{toggle-is-told, swap-is-told, measures-read, stored-read, run-over}
 use Rattle.model.proofs.Examples.{examples, one-sided, of-unlocked}
 use Rattle.model.proofs.Screen.{ordered-locks}
+use Rattle.model.proofs.Lock.{lock-exactly, holds-blank, holds-solid}
+use Rattle.model.proofs.Refusal.{draws-16}
 
 pub promises : Promises
 unfolding change toggleSum swapSum
@@ -48,6 +50,13 @@ promises =
         squared-error-is-not-negative = taken-nonneg w h r psf gray dots;
         table-is-bounded = taken-filtered w h r psf gray dots;
         squared-error-is-bounded = taken-squared w h r psf gray dots;
+      };
+      lock-promises = λ t dots. record {
+        locked-exactly = λ n. lock-exactly t n;
+        paper-is-blank = holds-blank t dots;
+        lettering-is-solid = holds-solid t dots;
+        undrawn-16-holds = draws-16 t dots .0;
+        drawn-16-contradicts = draws-16 t dots .1;
       };
       change-promises = λ t dots long. record {
         toggle-changes-by = λ bits. toggle-change t dots bits long;

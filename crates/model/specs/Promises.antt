@@ -16,12 +16,12 @@ use Rattle.model.specs.declared.Measures.{Measures}
 use Rattle.model.specs.declared.Stats.{Stats}
 use Rattle.model.specs.declared.ConvergeResult.{ConvergeResult}
 use Rattle.model.specs.declared.Item.the-variants.{Number, Other}
-use Rattle.model.specs.Basic.{AtMost, All}
+use Rattle.model.specs.Basic.{Exactly, AtMost, All}
 use Rattle.model.specs.Psf.{total, autocorrelation, peak}
 use Rattle.model.specs.Error.{Target, targetOf, targetFor, cellAt, cells, kernel, Halftone}
 use Rattle.model.specs.Error.{filteredError, filteredErrors, squaredError, perceivedSquares}
-use Rattle.model.specs.Lock.{LocksHold}
-use Rattle.model.specs.Refusal.{firstOf, badMeasures, halftoneRefusal, writeRefusal}
+use Rattle.model.specs.Lock.{locked, LocksHold}
+use Rattle.model.specs.Refusal.{firstOf, badMeasures, badLocks, halftoneRefusal, writeRefusal}
 use Rattle.model.specs.Ledger.{changes, ledgerDots, fallOf, dotTotal, counted}
 use Rattle.model.specs.State.{badTable, badStats, StateFits, laterRefusal}
 use Rattle.model.specs.Change.{sign, Move, Placed, made, toggle, swap, change}
@@ -82,6 +82,20 @@ module _ (w h r : ℕ) (psf gray dots : List ℕ) where
     -- E is at most 4,468,483,974,758,400
     pub squared-error-is-bounded : halftoneRefusal w h r psf gray dots [] ≡ 0 → AtMost 255 gray
         → squaredError target dots ≤ℤ pos 4468483974758400
+
+-- ---- Locked cells (02, C-12): of any target and dots
+module _ (t : Target) (dots : List ℕ) where
+  pub record LockPromises : Type 0 where
+    -- a cell is locked exactly where its gray is 0 or 255
+    pub locked-exactly : (n : ℕ)
+        → Exactly (locked (t .gray) n ≡ true) ((getD (t .gray) n 0 ≡ 0) ⊎ (getD (t .gray) n 0 ≡ 255))
+    -- every locked cell holds its byte: paper is blank, lettering is solid
+    pub paper-is-blank : LocksHold t dots → (n : ℕ) → n < cells t → getD (t .gray) n 0 ≡ 0 → getD dots n 0 ≡ 0
+    pub lettering-is-solid : LocksHold t dots → (n : ℕ) → n < cells t → getD (t .gray) n 0 ≡ 255
+        → getD dots n 0 ≡ t .top
+    -- and exactly where one does not, 16 is drawn
+    pub undrawn-16-holds : Exactly (firstOf (badLocks t dots ∷ []) ≡ 0) (LocksHold t dots)
+    pub drawn-16-contradicts : Exactly (firstOf (badLocks t dots ∷ []) ≡ 16) (LocksHold t dots → ⊥)
 
 -- ---- One change: of any target and step, and dots for its cells
 module _ (t : Target) (dots : List ℕ) where
@@ -251,7 +265,8 @@ module _ (m : Measures) (psf gray : List ℕ) where
         → (l : List Call)
         → (let begun = startCall m psf gray dots table .left in
         Demand3 (startDots m gray dots) (record { dots = begun .dots; table = begun .table; stats = s }) l)
-    -- handed on as left, nothing draws 20 or 21, nor 1 to 7 or 16: from whatever a later call accepts, and whatever the call
+    -- handed on as left, nothing draws 20 or 21, nor 1 to 7 or 16: from whatever a later call accepts, and whatever the
+    -- call
     pub left-is-accepted : (h : Held) (c : Call) → laterRefusal m psf gray (h .dots) (h .table) (h .stats) ≡ 0
         → (let h′ = handOn h (call m psf gray h c) in laterRefusal m psf gray (h′ .dots) (h′ .table) (h′ .stats) ≡ 0)
 
@@ -372,6 +387,7 @@ module _ (measures psf gray : List ℕ) where
 pub record Promises : Type 0 where
   pub autocorrelation-promises : (r : ℕ) (psf : List ℕ) → AutocorrelationPromises r psf
   pub error-promises : (w h r : ℕ) (psf gray dots : List ℕ) → ErrorPromises w h r psf gray dots
+  pub lock-promises : (t : Target) (dots : List ℕ) → LockPromises t dots
   pub change-promises : (t : Target) (dots : List ℕ) → length dots ≡ cells t → ChangePromises t dots
   pub attempt-promises : (m : Measures) (psf gray dots : List ℕ) (table : List ℤ) (s : Stats)
       → AttemptPromises m psf gray dots table s

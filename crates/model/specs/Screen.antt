@@ -38,7 +38,8 @@ screened gray threshold = pick (ltb (255 * threshold) (256 * gray)) 1 0
 unfoldable pub ordered : (width : ℕ) (gray : List ℕ) → ℕ → ℕ
 ordered width gray n = screened (getD gray n 0) (thresholdAt (n / width) (n % width))
 
--- the dots of a start: kind 0 makes all blank that is not locked, kind 1 goes by the thresholds, kind 2 takes the dots given
+-- the dots of a start: kind 0 makes all blank that is not locked, kind 1 goes by the thresholds, kind 2 takes the dots
+-- given
 unfoldable pub startDots : Measures → (gray given : List ℕ) → List ℕ
 startDots m gray given =
     pick (eqb (m .start) 0) (tabulate (m .height * m .width) (blank gray))

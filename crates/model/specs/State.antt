@@ -1,5 +1,5 @@
--- Document 01's refusals because of the state, 20 to 22 and 23 (02), and the whole lists of the later calls, those that are handed
--- a table and a ledger (`Stats`).
+-- Document 01's refusals because of the state, 20 to 22, with 23 (02) among them, and the whole lists of the later
+-- calls, those that are handed a table and a ledger (`Stats`).
 use mathlib.Core.Bool.{_||_}
 use mathlib.Core.List.{List, [], _∷_, _++_}
 use mathlib.Core.Path.{_≡_}
