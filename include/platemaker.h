@@ -184,8 +184,8 @@ uint32_t pm_try_swap(const size_t *measures, size_t measures_len, const uint8_t 
                      size_t col2, int64_t *change);
 
 /*
- * A toggle scan: a toggle is attempted at every cell that is not locked, row by row; *changes were accepted. Draws
- * 1 to 7, 16, 20, 21.
+ * A toggle scan: a toggle is attempted at every cell that is not locked, row by row; *changes were accepted.
+ * Draws 1 to 7, 16, 20, 21.
  */
 uint32_t pm_toggle_scan(const size_t *measures, size_t measures_len, const uint8_t *psf, size_t psf_len,
                         const uint8_t *gray, size_t gray_len, uint8_t *dots, size_t dots_len, int32_t *table,
