@@ -306,4 +306,4 @@ pictureBehind r (w, h) = (after (λ z. z .width) w r, after (λ z. z .height) h 
 
 -- ---- the version of the library: 1,000,000 × major + 1,000 × minor + patch
 abbrev pub version : ℕ
-version = 1000000
+version = 2000000
