@@ -1,5 +1,5 @@
-// The lists of refusals because of the input, 1 to 7 and 16, of each call that is not a reader: each function answers the
-// number of the first that is drawn, 0 for none.
+// The lists of refusals because of the input, 1 to 7 and 16, of each call that is not a reader: each function answers
+// the number of the first that is drawn, 0 for none.
 ghost use mathlib.Core.List.{[], _∷_};
 ghost use mathlib.Core.Path.{_≡_};
 ghost use Rattle.model.specs.Refusal.{firstOf, handed, inputRefusals};

@@ -1,5 +1,5 @@
--- Filed sheets of two cells, of gray 100 but for one of bare paper, that show what the check answers. `filed-examples` of proofs/FiledExamples.antt
--- fills the table by computing.
+-- Filed sheets of two cells, of gray 100 but for one of bare paper, that show what the check answers. `filed-examples`
+-- of proofs/FiledExamples.antt fills the table by computing.
 use mathlib.Core.Bool.{Bool, true, false}
 use mathlib.Core.List.{List, [], _∷_, _++_}
 use mathlib.Core.Path.{_≡_}

@@ -415,5 +415,6 @@ pub record Promises : Type 0 where
   pub examples-hold : Examples
   -- the half-peak bound is one-sided: plates at rest, at every reach, break its other side
   pub half-peak-is-one-sided : OneSided
-  -- rest is of unlocked cells: a plate at rest, at every reach, breaks each part of it at a locked cell
+  -- rest is of unlocked cells: plates at rest, at every reach, where at bare paper a toggle lowers E, a swap does, and the
+  -- bound of blanks is broken
   pub rest-is-of-unlocked-cells : OfUnlocked
