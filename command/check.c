@@ -2,20 +2,18 @@
 #include "plate.h"
 
 static enum status answer(const char *name, const int64_t *verdict) {
-    printf("%s: the figure %" PRId64, name, verdict[PM_VERDICT_FIGURE]);
-    if (verdict[PM_VERDICT_AGREES]) {
-        printf(" belongs to the dots");
+    int64_t agrees = verdict[PM_VERDICT_AGREES], fits = verdict[PM_VERDICT_FITS], rests = verdict[PM_VERDICT_RESTS];
+    printf("%s: the figure %" PRId64 " %s to the dots", name, verdict[PM_VERDICT_FIGURE],
+           agrees ? "belongs" : "does NOT belong");
+    if (!agrees) printf(", whose squared error is %" PRId64, verdict[PM_VERDICT_SQUARED]);
+    printf("; the ledger %s", fits ? "fits" : "does NOT fit");
+    if (rests < 0) {
+        printf("; the plate can NOT be started, %" PRId64 ": %s\n", -rests, pm_refusal_text((uint32_t)-rests));
     } else {
-        printf(" does NOT belong to the dots, whose squared error is %" PRId64, verdict[PM_VERDICT_SQUARED]);
-    }
-    printf("; the ledger %s", verdict[PM_VERDICT_FITS] ? "fits" : "does NOT fit");
-    if (verdict[PM_VERDICT_RESTS] < 0) {
-        printf("; a start would refuse it (%" PRId64 ")\n", -verdict[PM_VERDICT_RESTS]);
-    } else {
-        printf("; the plate is %s\n", verdict[PM_VERDICT_RESTS] ? "at rest" : "NOT at rest");
+        printf("; the plate is %s\n", rests ? "at rest" : "NOT at rest");
     }
     if (fflush(stdout) != 0) return trouble("standard output");
-    return verdict[PM_VERDICT_AGREES] && verdict[PM_VERDICT_FITS] && verdict[PM_VERDICT_RESTS] == 1 ? GOOD : DIFFERS;
+    return agrees && fits && rests == 1 ? GOOD : DIFFERS;
 }
 
 static enum status check_file(const char *name) {

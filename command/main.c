@@ -6,6 +6,7 @@
 static const char help[] =
     "plate settle [-p PSF] [-q REACH] [-s START] [-o OUT] [--sheet] [--figures FILE] [IN]\n"
     "    makes a plate of dots from a PGM or a sheet. What is not said is as the sheet has it, or the default.\n"
+    "    Gray 0 (white) stays bare and gray 255 (black) stays solid, as paper and lettering.\n"
     "    -p PSF          the spread: a ready one (below), or a file of 1, 9, 25 or 49 numbers\n"
     "    -q REACH        how far a dot may be swapped, 0 to 6\n"
     "    -s START        0 or blank, 1 or ordered, 2 or given (the dots of the sheet)\n"

@@ -15,7 +15,8 @@
  *
  *   measures  PM_MEASURES numbers, in the order of the constants below: width, height, radius, reach, kind of start
  *   psf       the spread: (2 * radius + 1)^2 bytes, row by row, with a sum of 1 to 1,024
- *   gray      one byte a cell, row by row: 0 is paper, 255 is black
+ *   gray      one byte a cell, row by row: 0 is bare paper, 255 is black, as of lettering. A cell of gray 0 or 255 is
+ *             locked: blank or a dot from the start on, and never changed. One that is to stay free has 1 or 254
  *   dots      one byte a cell: 0 is blank, 1 is a dot
  *   table     one number a cell: the filtered error. pm_start fills it, and the later calls keep it up to date
  *   stats     PM_STATS numbers, the ledger, in the order of the constants below. pm_start fills it, and the later calls
@@ -37,8 +38,8 @@ extern "C" {
 #endif
 
 /* The version of this header, as text and as a number: 1,000,000 * major + 1,000 * minor + patch. */
-#define PM_VERSION_TEXT "1.0.0"
-#define PM_VERSION 1000000
+#define PM_VERSION_TEXT "2.0.0"
+#define PM_VERSION 2000000
 
 /* The version of the library that is linked: PM_VERSION where header and library belong together. */
 uint32_t pm_version(void);
@@ -60,7 +61,7 @@ enum {
     PM_MEASURE_HEIGHT, /* 1 to 256 */
     PM_MEASURE_RADIUS, /* of the psf, 0 to 3 */
     PM_MEASURE_REACH,  /* rows, and columns, that a swap spans at most, 0 to 6 */
-    PM_MEASURE_START,  /* the kind of start: 0 blank, 1 ordered, 2 the dots given */
+    PM_MEASURE_START,  /* the kind of start: 0 blank where not locked, 1 ordered, 2 the dots given */
     PM_MEASURES        /* how many numbers there are */
 };
 
@@ -81,32 +82,34 @@ enum {
     PM_VERDICT_SQUARED, /* the squared error of the filed dots, by the sum */
     PM_VERDICT_AGREES,  /* 1 where these two are equal, else 0 */
     PM_VERDICT_FITS,    /* 1 where 21 is not drawn by the filed ledger, else 0 */
-    PM_VERDICT_RESTS,   /* 1 where no toggle and no swap within reach lowers the squared error, 0 where one does; a
-                           start that refuses the plate would answer its number negated, and none does today */
+    PM_VERDICT_RESTS,   /* 1 where no toggle and no swap within reach, of cells that are not locked, lowers the squared
+                           error, 0 where one does; -16 where a start would refuse the filed dots (16) */
     PM_VERDICT_CELLS,   /* width * height */
     PM_VERDICT          /* how many numbers there are */
 };
 
 /* the refusal numbers: docs/SPECIFICATION.md, Refusals, has the exact condition of each, and the order of each call */
 enum pm_refusal {
-    PM_REFUSED_SIZE = 1,     /* width or height */
-    PM_REFUSED_RADIUS = 2,   /* radius */
-    PM_REFUSED_REACH = 3,    /* reach */
-    PM_REFUSED_START = 4,    /* kind of start */
-    PM_REFUSED_LENGTH = 5,   /* a buffer of another length than it must have */
-    PM_REFUSED_PSF = 6,      /* the sum of the psf */
-    PM_REFUSED_DOT = 7,      /* a dot byte above 1 */
-    PM_REFUSED_CELL = 8,     /* a named cell off the plate */
-    PM_REFUSED_PAIR = 9,     /* a swap of a cell with itself, or farther than the reach */
-    PM_REFUSED_BYTE = 10,    /* in a sheet, a byte that none has there, or its end */
-    PM_REFUSED_NUMBER = 11,  /* in a sheet, a number outside its field */
-    PM_REFUSED_ROOM = 12,    /* a buffer too short for what is read or written */
-    PM_REFUSED_INPUT = 13,   /* an input too long: drawn by programs only */
-    PM_REFUSED_PICTURE = 14, /* the header or length of a PBM or PGM */
-    PM_REFUSED_MAXIMUM = 15, /* the maximum of a PGM */
-    PM_REFUSED_TABLE = 20,   /* a table entry that is not that of the dots */
-    PM_REFUSED_STATS = 21,   /* stats that do not fit the dots */
-    PM_REFUSED_EQUAL = 22    /* a swap of equal dots */
+    PM_REFUSED_SIZE = 1,         /* width or height */
+    PM_REFUSED_RADIUS = 2,       /* radius */
+    PM_REFUSED_REACH = 3,        /* reach */
+    PM_REFUSED_START = 4,        /* kind of start */
+    PM_REFUSED_LENGTH = 5,       /* a buffer of another length than it must have */
+    PM_REFUSED_PSF = 6,          /* the sum of the psf */
+    PM_REFUSED_DOT = 7,          /* a dot byte above 1 */
+    PM_REFUSED_CELL = 8,         /* a named cell off the plate */
+    PM_REFUSED_PAIR = 9,         /* a swap of a cell with itself, or farther than the reach */
+    PM_REFUSED_BYTE = 10,        /* in a sheet, a byte that none has there, or its end */
+    PM_REFUSED_NUMBER = 11,      /* in a sheet, a number outside its field */
+    PM_REFUSED_ROOM = 12,        /* a buffer too short for what is read or written */
+    PM_REFUSED_INPUT = 13,       /* an input too long: drawn by programs only */
+    PM_REFUSED_PICTURE = 14,     /* the header or length of a PBM or PGM */
+    PM_REFUSED_MAXIMUM = 15,     /* the maximum of a PGM */
+    PM_REFUSED_LOCKED_DOT = 16,  /* dots that contradict a locked cell: a dot on gray 0, or none on gray 255 */
+    PM_REFUSED_TABLE = 20,       /* a table entry that is not that of the dots */
+    PM_REFUSED_STATS = 21,       /* stats that do not fit the dots */
+    PM_REFUSED_EQUAL = 22,       /* a swap of equal dots */
+    PM_REFUSED_LOCKED_CELL = 23  /* an attempt that names a locked cell */
 };
 
 /* What a status says, in a few words without a full stop: a string that lasts. */
@@ -128,9 +131,11 @@ static inline const char *pm_refusal_text(uint32_t number) {
     case PM_REFUSED_INPUT: return "input too long";
     case PM_REFUSED_PICTURE: return "not one whole raw PBM or PGM of 1 to 256 by 1 to 256 cells";
     case PM_REFUSED_MAXIMUM: return "maximum of a PGM other than 255";
+    case PM_REFUSED_LOCKED_DOT: return "dot on gray 0, or none on gray 255, which are locked (1 and 254 are not)";
     case PM_REFUSED_TABLE: return "table that is not that of the dots";
     case PM_REFUSED_STATS: return "ledger that does not fit the dots";
     case PM_REFUSED_EQUAL: return "swap of equal dots";
+    case PM_REFUSED_LOCKED_CELL: return "attempt on gray 0 or 255, which are locked (1 and 254 are not)";
     default: return "unknown refusal";
     }
 }
@@ -152,33 +157,44 @@ uint32_t pm_squared_error(size_t width, size_t height, size_t radius, const uint
  * numbers in measures.
  */
 
-/* A start of the kind given: writes dots (with kind 2 they are read and stay), table and fresh stats. Draws 1 to 7. */
+/*
+ * A start of the kind given: writes dots, table and fresh stats. Kinds 0 and 1 set the locked cells; with kind 2 the
+ * dots are read and stay. Draws 1 to 7, 16 (7 and 16 with kind 2 only).
+ */
 uint32_t pm_start(const size_t *measures, size_t measures_len, const uint8_t *psf, size_t psf_len, const uint8_t *gray,
                   size_t gray_len, uint8_t *dots, size_t dots_len, int32_t *table, size_t table_len, int64_t *stats,
                   size_t stats_len);
 
 /*
  * An attempt to toggle the dot at (row, col). *change is what the toggle adds to the squared error. Below 0 it was
- * accepted: dots, table and stats have changed. Else it was declined, and they have not. Draws 1 to 8, 20, 21.
+ * accepted: dots, table and stats have changed. Else it was declined, and they have not. Draws 1 to 7, 16, 8, 20, 21,
+ * 23 (the cell is locked), in this order.
  */
 uint32_t pm_try_toggle(const size_t *measures, size_t measures_len, const uint8_t *psf, size_t psf_len,
                        const uint8_t *gray, size_t gray_len, uint8_t *dots, size_t dots_len, int32_t *table,
                        size_t table_len, int64_t *stats, size_t stats_len, size_t row, size_t col, int64_t *change);
 
-/* An attempt to swap the dots at (row, col) and (row2, col2); *change as above. Draws 1 to 9, 20, 21, 22. */
+/*
+ * An attempt to swap the dots at (row, col) and (row2, col2); *change as above. Draws 1 to 7, 16, 8, 9, 20, 21, 23 (one
+ * of the cells is locked), 22, in this order.
+ */
 uint32_t pm_try_swap(const size_t *measures, size_t measures_len, const uint8_t *psf, size_t psf_len,
                      const uint8_t *gray, size_t gray_len, uint8_t *dots, size_t dots_len, int32_t *table,
                      size_t table_len, int64_t *stats, size_t stats_len, size_t row, size_t col, size_t row2,
                      size_t col2, int64_t *change);
 
-/* A toggle scan: a toggle is attempted at every cell, row by row; *changes were accepted. Draws 1 to 7, 20, 21. */
+/*
+ * A toggle scan: a toggle is attempted at every cell that is not locked, row by row; *changes were accepted.
+ * Draws 1 to 7, 16, 20, 21.
+ */
 uint32_t pm_toggle_scan(const size_t *measures, size_t measures_len, const uint8_t *psf, size_t psf_len,
                         const uint8_t *gray, size_t gray_len, uint8_t *dots, size_t dots_len, int32_t *table,
                         size_t table_len, int64_t *stats, size_t stats_len, uint64_t *changes);
 
 /*
  * A swap scan: at every cell, row by row, the swaps with the cells within reach are attempted, farthest first, up to
- * the first that is accepted. *changes is how many were accepted. Draws 1 to 7, 20, 21.
+ * the first that is accepted. Locked cells are passed over, as cell and as partner. *changes is how many were accepted.
+ * Draws 1 to 7, 16, 20, 21.
  */
 uint32_t pm_swap_scan(const size_t *measures, size_t measures_len, const uint8_t *psf, size_t psf_len,
                       const uint8_t *gray, size_t gray_len, uint8_t *dots, size_t dots_len, int32_t *table,
@@ -186,7 +202,8 @@ uint32_t pm_swap_scan(const size_t *measures, size_t measures_len, const uint8_t
 
 /*
  * A settling: toggle scans until one accepts nothing, then a swap scan; if that accepted something, again. No toggle
- * and no swap within reach then lowers the squared error. *scans is how many scans were made. Draws 1 to 7, 20, 21.
+ * and no swap within reach, of cells that are not locked, then lowers the squared error. *scans is how many scans were
+ * made. Draws 1 to 7, 16, 20, 21.
  */
 uint32_t pm_converge(const size_t *measures, size_t measures_len, const uint8_t *psf, size_t psf_len,
                      const uint8_t *gray, size_t gray_len, uint8_t *dots, size_t dots_len, int32_t *table,
@@ -215,6 +232,7 @@ uint32_t pm_write_sheet(const size_t *measures, size_t measures_len, const uint8
  * Checks a filed sheet: what the program `settle` prints for a plate, that is a sheet with start 2 and two lines of
  * figures, `before after on off swaps scans` and their numbers. Its ledger has before and after as the squared error at
  * the start and now, and the dots of the plate - on + off as those at the start; where that is below 0 it does not fit.
+ * Dots that contradict a locked cell are not refused here: figure and ledger are judged as ever, and rest is -16.
  *
  * psf, gray, dots and table may be longer than needed: those of the sheet, and the table of its dots, stand at their
  * front, and what lies past stays. verdict has PM_VERDICT numbers. Draws 5 (verdict of another length) before all else;
@@ -240,8 +258,9 @@ uint32_t pm_read_pbm(const uint8_t *file, size_t file_len, uint8_t *dots, size_t
                      size_t *height);
 
 /*
- * Reads a PGM file: gray is 255 less the stored value. Draws 14 (header, or length at one byte a cell), 15 (a maximum
- * other than 255), 12 (gray too short), in this order.
+ * Reads a PGM file: gray is 255 less the stored value, so that white is bare paper, black is lettering, and both are
+ * locked. Draws 14 (header, or length at one byte a cell), 15 (a maximum other than 255), 12 (gray too short), in this
+ * order.
  */
 uint32_t pm_read_pgm(const uint8_t *file, size_t file_len, uint8_t *gray, size_t gray_len, size_t *width,
                      size_t *height);

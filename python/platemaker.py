@@ -29,7 +29,7 @@ from operator import index
 from pathlib import Path
 from typing import Any, Iterable, NamedTuple, Optional, Union
 
-VERSION = "1.0.0"
+VERSION = "2.0.0"
 MAX_CELLS, MAX_PSF, MAX_SHEET, MAX_PBM = 65536, 49, 393472, 8203
 
 
@@ -67,9 +67,11 @@ REFUSALS = {
     13: "input too long",
     14: "not one whole raw PBM or PGM of 1 to 256 by 1 to 256 cells",
     15: "maximum of a PGM other than 255",
+    16: "dot on gray 0, or none on gray 255, which are locked (1 and 254 are not)",
     20: "table that is not that of the dots",
     21: "ledger that does not fit the dots",
     22: "swap of equal dots",
+    23: "attempt on gray 0 or 255, which are locked (1 and 254 are not)",
 }
 
 # bytes, bytearray, memoryview, array("B"), a numpy array of uint8: whatever a memoryview can be taken of
@@ -91,7 +93,7 @@ class Refused(Exception):
 
 
 class Measures(NamedTuple):
-    """The measures of a plate; `start` is the kind of start: 0 blank, 1 ordered, 2 the dots given."""
+    """The measures of a plate; `start` is the kind: 0 blank where not locked, 1 ordered, 2 the dots given."""
 
     width: int
     height: int
@@ -113,7 +115,9 @@ class Figures(NamedTuple):
 
 class Verdict(NamedTuple):
     """What a check found: the squared error as filed and of the dots, whether they agree, whether the ledger fits the
-    dots, whether no toggle and no swap within reach lowers the squared error, and the number of cells."""
+    dots, whether no toggle and no swap within reach, of cells that are not locked, lowers the squared error, and the
+    number of cells. `unstarted` is the number by which a start would refuse the dots (16: they contradict a locked
+    cell); then `rests` is False. Where none would refuse them it is 0."""
 
     figure: int
     squared: int
@@ -121,6 +125,7 @@ class Verdict(NamedTuple):
     fits: bool
     rests: bool
     cells: int
+    unstarted: int = 0
 
     @property
     def good(self) -> bool:
@@ -244,6 +249,9 @@ class Plate:
     ) -> None:
         """A plate of width * height gray bytes (0 is paper, 255 black), started.
 
+        A cell of gray 0 or 255 is locked: blank or a dot from the start on, and never changed. Dots that contradict it
+        are refused (16). A cell that is to stay free has gray 1 or 254.
+
         psf is a name in PSFS, or 1, 9, 25 or 49 numbers, row by row. start is 0 blank, 1 ordered, 2 the dots given, or
         blank if there are none; where it is not said, 2 if there are dots, else DEFAULT_START.
 
@@ -265,13 +273,13 @@ class Plate:
 
     @classmethod
     def from_pgm(cls, data: Buffer, **settings: Any) -> Plate:
-        """The plate of a raw PGM file; psf, reach, start, dots and table as in Plate()."""
+        """The plate of a raw PGM file: white and black are locked; psf, reach, start, dots, table as in Plate()."""
         width, height, gray = read_pgm(data)
         return cls(gray, width, height, **settings)
 
     @classmethod
     def from_sheet(cls, data: Buffer) -> Plate:
-        """The plate of a sheet, started as the sheet says."""
+        """The plate of a sheet, started as it says: dots of it that contradict a locked cell are refused (16)."""
         psf, gray, dots = (memoryview(bytearray(room)) for room in (MAX_PSF, MAX_CELLS, MAX_CELLS))
         numbers = (c_size_t * len(Measures._fields))()
         _call("pm_read_sheet", _readable(data), psf, gray, dots, memoryview(numbers), place=c_size_t())
@@ -317,19 +325,25 @@ class Plate:
         return self._made("pm_converge", c_uint64())
 
     def toggle(self, row: int, col: int) -> int:
-        """Attempts to toggle a dot; answers what it adds to the squared error. It is done where that is below 0."""
+        """Attempts to toggle a dot; answers what it adds to the squared error. It is done where that is below 0.
+
+        A locked cell is refused (23).
+        """
         return self._made("pm_try_toggle", c_int64(), row, col)
 
     def swap(self, row: int, col: int, row2: int, col2: int) -> int:
-        """Attempts to swap two dots; answers what it adds to the squared error. It is done where that is below 0."""
+        """Attempts to swap two dots; answers what it adds to the squared error. It is done where that is below 0.
+
+        A locked cell is refused (23).
+        """
         return self._made("pm_try_swap", c_int64(), row, col, row2, col2)
 
     def toggle_scan(self) -> int:
-        """Attempts a toggle at every cell; answers how many were done."""
+        """Attempts a toggle at every cell that is not locked; answers how many were done."""
         return self._made("pm_toggle_scan", c_uint64())
 
     def swap_scan(self) -> int:
-        """Attempts swaps at every cell, up to the first that is done; answers how many were done."""
+        """Attempts swaps at every cell that is not locked, up to the first that is done; answers how many were done."""
         return self._made("pm_swap_scan", c_uint64())
 
     def squared_error(self) -> int:
@@ -366,10 +380,10 @@ class Plate:
 def check(filed: Buffer) -> Verdict:
     """Checks a filed sheet, as `plate settle --sheet` and Plate.to_filed make it."""
     room = [memoryview(bytearray(size)) for size in (MAX_PSF, MAX_CELLS, MAX_CELLS)]
-    verdict = _numbers("q", len(Verdict._fields))
+    verdict = _numbers("q", len(Verdict._fields) - 1)  # a start's refusal stands in the place of rest, below 0
     _call("pm_check_filed", _readable(filed), *room, _numbers("i", MAX_CELLS), verdict, place=c_size_t())
     figure, squared, agrees, fits, rests, cells = verdict
-    return Verdict(figure, squared, agrees == 1, fits == 1, rests == 1, cells)
+    return Verdict(figure, squared, agrees == 1, fits == 1, rests == 1, cells, max(-rests, 0))
 
 
 def autocorrelation(psf: Psf) -> list[int]:
@@ -387,7 +401,7 @@ def read_pbm(data: Buffer) -> tuple[int, int, bytearray]:
 
 
 def read_pgm(data: Buffer) -> tuple[int, int, bytearray]:
-    """Width, height and gray of a raw PGM file: 255 less each stored value."""
+    """Width, height and gray of a raw PGM file: 255 less each stored value, so that white is 0 and black 255."""
     return _read_picture("pm_read_pgm", data)
 
 

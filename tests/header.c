@@ -1,6 +1,6 @@
 /*
  * What include/platemaker.h says, tried on the library: versions, refusal texts, sizes that suffice, empty buffers at
- * NULL, measures of a wrong length, what struct pm_plate hands on, and the stack of a thread with 1 MiB.
+ * NULL, measures of a wrong length, locked cells, what struct pm_plate hands on, and the stack of a thread with 1 MiB.
  *
  *     header          all of it
  *     header --small  without the largest plates, for a slow machine such as valgrind's
@@ -223,7 +223,7 @@ static void check_version(void) {
 static void check_texts(void) {
     const char *unknown = pm_refusal_text(UINT32_MAX);
     for (uint32_t number = 0; number < 40; number++) {
-        int drawn = number <= 15 || (number >= 20 && number <= 22), same = 0;
+        int drawn = number <= 16 || (number >= 20 && number <= 23), same = 0;
         const char *text = pm_refusal_text(number);
         check((strcmp(text, unknown) != 0) == drawn, "the text of %" PRIu32, number);
         for (uint32_t other = 0; drawn && other < number; other++) same += strcmp(text, pm_refusal_text(other)) == 0;
@@ -359,6 +359,93 @@ static void check_stats(void) {
             check(call(which) == PM_REFUSED_STATS && unchanged(), "%s, number %d below 0", calls[which].name, i);
         }
     }
+}
+
+/* Locked cells: a plate of 3 by 1 cells with paper, black and a gray between them. */
+
+/* the dots and the kind of start that a call is handed, and the refusal it answers; a start then leaves these dots */
+static const struct {
+    uint8_t dots[3];
+    size_t start;
+    uint32_t at_start, later;
+    uint8_t left[3];
+} locks[] = {
+    {{0, 1, 0}, 2, 0, 0, {0, 1, 0}},
+    {{1, 1, 0}, 2, PM_REFUSED_LOCKED_DOT, PM_REFUSED_LOCKED_DOT, {1, 1, 0}},
+    {{0, 0, 1}, 2, PM_REFUSED_LOCKED_DOT, PM_REFUSED_LOCKED_DOT, {0, 0, 1}},
+    {{1, 0, 2}, 2, PM_REFUSED_DOT, PM_REFUSED_DOT, {1, 0, 2}},
+    {{1, 0, 2}, 1, 0, PM_REFUSED_DOT, {0, 1, 1}},
+    {{1, 0, 1}, 1, 0, PM_REFUSED_LOCKED_DOT, {0, 1, 1}},
+    {{1, 0, 1}, 0, 0, PM_REFUSED_LOCKED_DOT, {0, 1, 0}},
+};
+
+/* the plate, with these dots and a psf that spreads nothing */
+static struct pm_plate locked_plate(const uint8_t *dots, size_t start) {
+    static uint8_t gray[3], held[3];
+    static int32_t table[3];
+    struct pm_plate plate = {.measures = {3, 1, 0, 2, start}, .psf = {1}, .gray = gray, .dots = held, .table = table,
+                             .room = 3};
+    memcpy(gray, (const uint8_t[]){0, 255, 130}, 3);
+    memcpy(held, dots, 3);
+    return plate;
+}
+
+#define OF_PLATE(p) (p).measures, PM_MEASURES, (p).psf, 1, (p).gray, 3, (p).dots, 3, (p).table, 3, (p).stats, PM_STATS
+
+/* 16 straight after 7, so before 8 and 9; at a start with kind 2 only */
+static void check_locked_dots(void) {
+    for (size_t i = 0; i < sizeof locks / sizeof locks[0]; i++) {
+        int64_t change = 0;
+        uint64_t changes = 0;
+        struct pm_plate plate = locked_plate(locks[i].dots, locks[i].start);
+        check(pm_plate_start(&plate) == locks[i].at_start, "the start of locked cells %zu", i);
+        check(memcmp(plate.dots, locks[i].left, 3) == 0, "the dots of locked cells %zu", i);
+        memcpy(plate.dots, locks[i].dots, 3);
+        if (locks[i].later == 0) continue;
+        check(pm_try_toggle(OF_PLATE(plate), 1, 0, &change) == locks[i].later, "a toggle off the plate, %zu", i);
+        check(pm_try_swap(OF_PLATE(plate), 0, 0, 0, 0, &change) == locks[i].later, "a swap with itself, %zu", i);
+        check(pm_plate_toggle_scan(&plate, &changes) == locks[i].later, "a toggle scan of locked cells %zu", i);
+        check(pm_plate_swap_scan(&plate, &changes) == locks[i].later, "a swap scan of locked cells %zu", i);
+        check(pm_plate_settle(&plate, &changes) == locks[i].later, "a settling of locked cells %zu", i);
+    }
+}
+
+/* 23 after 21 and before 22, of either cell; what is locked stays */
+static void check_locked_cells(void) {
+    int64_t change = BEFORE;
+    uint64_t scans = 0;
+    struct pm_plate plate = locked_plate((const uint8_t[]){0, 1, 0}, 2);
+    check(pm_plate_start(&plate) == 0, "a start for attempts on locked cells");
+    plate.stats[PM_STATS_ERROR]++;
+    check(pm_try_toggle(OF_PLATE(plate), 0, 0, &change) == PM_REFUSED_STATS, "21 before 23");
+    plate.stats[PM_STATS_ERROR]--;
+    check(pm_try_toggle(OF_PLATE(plate), 0, 0, &change) == PM_REFUSED_LOCKED_CELL, "a toggle of paper");
+    check(pm_try_toggle(OF_PLATE(plate), 0, 1, &change) == PM_REFUSED_LOCKED_CELL, "a toggle of black");
+    check(pm_try_swap(OF_PLATE(plate), 0, 0, 0, 2, &change) == PM_REFUSED_LOCKED_CELL, "a swap of paper, equal dots");
+    check(pm_try_swap(OF_PLATE(plate), 0, 2, 0, 1, &change) == PM_REFUSED_LOCKED_CELL, "a swap with black");
+    check(change == BEFORE, "the change of attempts on locked cells");
+    check(pm_plate_settle(&plate, &scans) == 0 && memcmp(plate.dots, (const uint8_t[]){0, 1, 1}, 3) == 0,
+          "a plate with locked cells settles");
+}
+
+/* the check is not refused; its rest number is -16 */
+static void check_locked_filed(void) {
+    static const char filed[] = "width height radius reach start\n1 1 0 0 2\npsf\n1\ngray\n255\ndots\n0\n"
+                                "before after on off swaps scans\n65025 65025 0 0 0 2\n";
+    static const int64_t wanted[PM_VERDICT] = {65025, 65025, 1, 1, -PM_REFUSED_LOCKED_DOT, 1};
+    uint8_t psf[1], gray[1], dots[1];
+    int32_t table[1];
+    int64_t verdict[PM_VERDICT];
+    size_t offset = 0;
+    uint32_t status = pm_check_filed((const uint8_t *)filed, sizeof filed - 1, psf, 1, gray, 1, dots, 1, table, 1,
+                                     verdict, PM_VERDICT, &offset);
+    check(status == 0 && memcmp(verdict, wanted, sizeof wanted) == 0, "a filed sheet with a wrong locked cell");
+}
+
+static void check_locks(void) {
+    check_locked_dots();
+    check_locked_cells();
+    check_locked_filed();
 }
 
 /* struct pm_plate. */
@@ -547,6 +634,7 @@ int main(int count, char **words) {
     check_texts();
     check_buffers();
     check_stats();
+    check_locks();
     check_plates();
     if (!small) {
         check_sizes();

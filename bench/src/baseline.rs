@@ -1,22 +1,24 @@
-//! The baseline: document 01's rules, table-driven, in plain Rust. Its calls judge nothing that they are handed; `judge`
-//! works out afresh what document 01 demands that a later call compares with.
+//! The baseline: document 01's rules and the locked cells of request C-12, table-driven, in plain Rust. Its calls judge
+//! nothing that they are handed; `judge` works out afresh what document 01 demands that a later call compares with.
 
 mod search;
 mod sums;
 
-use crate::plate::{Job, Plate, Side, STATS_ERROR, STATS_OFF, STATS_ON, STATS_START_DOTS};
+use crate::plate::{is_locked, Job, Plate, Side, STATS_ERROR, STATS_OFF, STATS_ON, STATS_START_DOTS};
 
 /// With `any_first`, a swap scan goes through the partners of a cell only where a quick pass says that one will do.
 pub struct Baseline {
     pub any_first: bool,
 }
 
-/// Whether the table and the stats are those of the dots.
+/// Whether the dots fit the locks, and the table and the stats are those of the dots.
 pub fn judge(job: &Job, plate: &Plate) -> bool {
     let mut table = vec![0; job.cells()];
     let error = sums::table_and_squared_error(job, &plate.dots, &mut table);
     let dots = plate.stats[STATS_START_DOTS] + plate.stats[STATS_ON] - plate.stats[STATS_OFF];
-    table == plate.table && error == plate.stats[STATS_ERROR] && dots == count_dots(&plate.dots)
+    let fits = |(&dot, &gray): (&u8, &u8)| !is_locked(gray) || (dot == 1) == (gray == 255);
+    let locks = plate.dots.iter().zip(&job.gray).all(fits);
+    locks && table == plate.table && error == plate.stats[STATS_ERROR] && dots == count_dots(&plate.dots)
 }
 
 /// The first bits of row and column weigh most.
@@ -59,7 +61,8 @@ fn turn(job: &Job, plate: &mut Plate, row: usize, col: usize, c: &[i32]) {
 impl Side for Baseline {
     fn start(&self, job: &Job, plate: &mut Plate) {
         match job.kind {
-            0 => plate.dots.fill(0),
+            0 => plate.dots.iter_mut().zip(&job.gray).for_each(|(dot, &gray)| *dot = u8::from(gray == 255)),
+            // the thresholds set locked cells too
             1 => ordered_dots(job, &mut plate.dots),
             _ => (),
         }

@@ -18,14 +18,37 @@ fn binomials(n: usize) -> Vec<u32> {
     row
 }
 
-/// Rises from 0 on the left to 255 on the right, with noise of up to 8 either way.
+/// Rises from the left to the right, with noise of up to 8 either way, kept from 1 to 254, so that no cell is locked.
 pub fn noisy_ramp(width: usize, height: usize) -> Vec<u8> {
     let mut noise = Noise(1);
     let shade = |cell: usize| {
         let level = (cell % width * 255 / (width - 1)) as i64;
-        (level + noise.next() % 17 - 8).clamp(0, 255) as u8
+        (level + noise.next() % 17 - 8).clamp(1, 254) as u8
     };
     (0..width * height).map(shade).collect()
+}
+
+/// The ramp with a plot and a letter in every 32 by 32 cells. A quarter of the cells is locked.
+pub fn lettered(width: usize, height: usize) -> Vec<u8> {
+    let mut gray = noisy_ramp(width, height);
+    for (cell, gray) in gray.iter_mut().enumerate() {
+        *gray = locked(cell / width % 32, cell % width % 32).unwrap_or(*gray);
+    }
+    gray
+}
+
+/// Bare paper with an outline of ink, and beside it the letter H.
+fn locked(row: usize, col: usize) -> Option<u8> {
+    match (row, col) {
+        (3..=14, 3..=14) => Some(0),
+        (2..=15, 2..=15) | (4..=15, 20..=21 | 27..=28) | (9..=10, 22..=26) => Some(255),
+        _ => None,
+    }
+}
+
+/// The same with no cell locked: 1 for paper, 254 for ink.
+pub fn unlocked(gray: &[u8]) -> Vec<u8> {
+    gray.iter().map(|&gray| gray.clamp(1, 254)).collect()
 }
 
 pub fn flat(width: usize, height: usize) -> Vec<u8> {

@@ -1,7 +1,7 @@
 //! Measures the library and the baseline in one run, and tests that both end with the same plates.
 //!
 //!     bench [--quick] [--markdown]
-//!     bench --count library|baseline|any-first KIND    one small settling, for a tool that counts instructions
+//!     bench --count library|baseline|any-first KIND RELIEF    one small settling, for a tool that counts instructions
 
 mod baseline;
 mod filed;
@@ -14,7 +14,7 @@ mod report;
 use baseline::Baseline;
 use filed::checks;
 use library::Library;
-use measure::{job, settlings, single_calls, Scale};
+use measure::{job, locks, settlings, single_calls, Scale};
 use plate::{Plate, Side};
 use std::env;
 use std::process::ExitCode;
@@ -23,23 +23,32 @@ fn main() -> ExitCode {
     let words: Vec<String> = env::args().skip(1).collect();
     let words: Vec<&str> = words.iter().map(String::as_str).collect();
     match words[..] {
-        ["--count", "library", kind] => count(&Library, kind),
-        ["--count", "any-first", kind] => count(&Baseline { any_first: true }, kind),
-        ["--count", "baseline", kind] => count(&Baseline { any_first: false }, kind),
+        ["--count", "library", kind, relief] => count(&Library, kind, relief),
+        ["--count", "any-first", kind, relief] => count(&Baseline { any_first: true }, kind, relief),
+        ["--count", "baseline", kind, relief] => count(&Baseline { any_first: false }, kind, relief),
         _ if words.iter().all(|word| ["--quick", "--markdown"].contains(word)) => compare(&words),
-        _ => {
-            eprintln!("usage: bench [--quick] [--markdown] | bench --count library|baseline|any-first KIND");
-            ExitCode::from(2)
-        }
+        _ => usage(),
     }
 }
 
+fn usage() -> ExitCode {
+    eprintln!("usage: bench [--quick] [--markdown]");
+    eprintln!("       bench --count library|baseline|any-first KIND ramp|lettered|unlocked");
+    ExitCode::from(2)
+}
+
 /// One small settling by one side.
-fn count(side: &dyn Side, kind: &str) -> ExitCode {
-    let Ok(kind) = kind.parse() else {
-        return ExitCode::from(2);
+fn count(side: &dyn Side, kind: &str, relief: &str) -> ExitCode {
+    let gray = match relief {
+        "ramp" => input::noisy_ramp(64, 64),
+        "lettered" => input::lettered(64, 64),
+        "unlocked" => input::unlocked(&input::lettered(64, 64)),
+        _ => return usage(),
     };
-    let job = job(64, 3, 6, kind, input::noisy_ramp(64, 64));
+    let Ok(kind) = kind.parse() else {
+        return usage();
+    };
+    let job = job(64, 3, 6, kind, gray);
     let mut plate = Plate::cleared(job.cells());
     side.start(&job, &mut plate);
     println!("{} scans", side.settle(&job, &mut plate));
@@ -53,18 +62,23 @@ fn compare(words: &[&str]) -> ExitCode {
     } else {
         Scale { side: 256, repetitions: 5, calls: 32 }
     };
-    let (settled, called, checked) = (settlings(&scale), single_calls(&scale), checks(&scale));
+    let (settled, locked) = (settlings(&scale), locks(&scale));
+    let (called, checked) = (single_calls(&scale), checks(&scale));
     let side = scale.side;
     println!("{side} by {side}, median of {}; a: the library, b: the baseline\n", scale.repetitions);
     println!(
         "Start and settling in ms, with ' the settling alone; b2: b that asks first whether any partner will do\n"
     );
     settled.table.print(words.contains(&"--markdown"));
+    println!(
+        "The settling alone in ms, by the library; a': of the lettered relief, t': of the same with no cell locked\n"
+    );
+    locked.table.print(words.contains(&"--markdown"));
     println!("One call in us, radius 3; bj: b that judges table and stats first\n");
     called.table.print(words.contains(&"--markdown"));
     println!("A filed sheet in ms; a: its check, b: it is read, started and settled again, by the library\n");
     checked.table.print(words.contains(&"--markdown"));
-    let all = [settled, called, checked];
+    let all = [settled, locked, called, checked];
     let (alike, unlike) = all.iter().fold((0, 0), |sum, one| (sum.0 + one.alike, sum.1 + one.unlike));
     println!("{alike} passed, {unlike} failed");
     ExitCode::from(u8::from(unlike > 0))

@@ -89,13 +89,41 @@ fn jobs(side: usize) -> Vec<(String, Job)> {
     let mut jobs = Vec::new();
     for (radius, reach) in [(3, 6), (3, 1), (1, 6)] {
         for (name, gray) in &grays {
-            for kind in [0, 1] {
-                let name = format!("radius {radius}, reach {reach}, {name}, kind {kind}");
-                jobs.push((name, job(side, radius, reach, kind, gray.clone())));
-            }
+            jobs.extend(jobs_of(name, side, (radius, reach), gray));
         }
     }
+    jobs.extend(lettered_jobs(side));
     jobs
+}
+
+fn lettered_jobs(side: usize) -> Vec<(String, Job)> {
+    let gray = input::lettered(side, side);
+    [(3, 6), (3, 1)].iter().flat_map(|&sizes| jobs_of("lettered", side, sizes, &gray)).collect()
+}
+
+/// Jobs with radius and reach on this gray, of both kinds.
+fn jobs_of(name: &str, side: usize, (radius, reach): (usize, usize), gray: &[u8]) -> [(String, Job); 2] {
+    let named = |kind| format!("radius {radius}, reach {reach}, {name}, kind {kind}");
+    [0, 1].map(|kind| (named(kind), job(side, radius, reach, kind, gray.to_vec())))
+}
+
+/// Settlings of the lettered relief by the library, without the start, beside those of its twin with no cell locked.
+pub fn locks(scale: &Scale) -> Outcome {
+    let mut outcome = Outcome::new(&["settling", "scans", "a'", "scans of t", "t'", "a'/t'", "alike"]);
+    for (name, lettered) in lettered_jobs(scale.side) {
+        let twin = Job { gray: input::unlocked(&lettered.gray), psf: lettered.psf.clone(), ..lettered };
+        let mut runs = [Vec::new(), Vec::new()];
+        for _ in 0..scale.repetitions {
+            [&lettered, &twin].iter().zip(&mut runs).for_each(|(job, runs)| runs.push(settle_once(&Library, job)));
+        }
+        let same = [&lettered, &twin].map(|job| settle_once(&BASELINE, job));
+        let alike = runs.iter().zip(&same).all(|(runs, same)| runs.iter().all(|run| run.plate == same.plate));
+        let [a, t] = runs.each_ref().map(|runs| median(runs, |run| run.settle));
+        let [a_scans, t_scans] = runs.each_ref().map(|runs| runs[0].scans.to_string());
+        let [a, t, share] = [a, t, a / t].map(|figure| format!("{figure:.2}"));
+        outcome.add(vec![name, a_scans, a, t_scans, t, share], alike);
+    }
+    outcome
 }
 
 /// A square job.

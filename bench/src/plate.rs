@@ -21,6 +21,11 @@ impl Job {
     }
 }
 
+/// Paper and ink are never touched (request C-12).
+pub fn is_locked(gray: u8) -> bool {
+    matches!(gray, 0 | 255)
+}
+
 #[derive(Clone, PartialEq)]
 pub struct Plate {
     pub dots: Vec<u8>,

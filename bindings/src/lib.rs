@@ -6,6 +6,9 @@
 //! The calls on a plate, [`start`] to [`converge`] and [`write_sheet`], take the measures first. They draw 5 where
 //! these are not [`MEASURES`] numbers, before all else, and then 1 to 4 by these numbers.
 //!
+//! A cell of gray 0 (bare paper) or 255 (lettering) is locked: blank or a dot from the start on, and never changed. One
+//! that is to stay free has 1 or 254.
+//!
 //! docs/SPECIFICATION.md has the rules, and the exact condition of every refusal number. `make lib` builds the library;
 //! this crate links the static one.
 //!
@@ -29,8 +32,8 @@ pub use refusal::*;
 
 /// The version of the header that this crate follows, in words and as a number: 1,000,000 * major + 1,000 * minor +
 /// patch.
-pub const VERSION_TEXT: &str = "1.0.0";
-pub const VERSION: u32 = 1_000_000;
+pub const VERSION_TEXT: &str = "2.0.0";
+pub const VERSION: u32 = 2_000_000;
 
 /// Sizes that suffice for every plate: width, and height; cells; the entries of a psf; the bytes of a sheet and of a
 /// filed sheet; those of a PBM and of a PGM as they are written.
@@ -62,7 +65,8 @@ pub const STATS_SWAPS: usize = 5;
 pub const STATS: usize = 6;
 
 /// The numbers in verdict, which [`check_filed`] fills: the squared error as filed, and by the sum; whether these are
-/// equal, whether the ledger fits and whether the plate rests, each 1 or 0; width * height.
+/// equal, whether the ledger fits and whether the plate rests, each 1 or 0, the last -16 where a start would refuse the
+/// filed dots ([`REFUSED_LOCKED_DOT`]); width * height.
 pub const VERDICT_FIGURE: usize = 0;
 pub const VERDICT_SQUARED: usize = 1;
 pub const VERDICT_AGREES: usize = 2;
@@ -73,7 +77,7 @@ pub const VERDICT_CELLS: usize = 5;
 pub const VERDICT: usize = 6;
 
 /// What a plate is measured by: width and height, 1 to 256; the radius of its psf, 0 to 3; the reach of a swap in a scan,
-/// 0 to 6; the kind of start, 0 blank, 1 ordered, 2 the dots given.
+/// 0 to 6; the kind of start, 0 blank where not locked, 1 ordered, 2 the dots given.
 #[derive(Clone, Copy, PartialEq, Eq, Debug, Default)]
 pub struct Measures {
     pub width: usize,
@@ -201,26 +205,30 @@ macro_rules! plate_calls {
 }
 
 plate_calls! {
-    /// A start of the kind given: writes dots (with kind 2 they are read and stay), table and fresh stats. Draws 1 to 7.
+    /// A start of the kind given: writes dots, table and fresh stats. Kinds 0 and 1 set the locked cells; with kind 2
+    /// the dots are read and stay. Draws 1 to 7, 16 (7 and 16 with kind 2 only).
     start, pm_start();
 
     /// An attempt to toggle the dot at (row, col). change is what the toggle adds to the squared error. Below 0 it was
-    /// accepted: dots, table and stats have changed. Else it was declined, and they have not. Draws 1 to 8, 20, 21.
+    /// accepted: dots, table and stats have changed. Else it was declined, and they have not. Draws 1 to 7, 16, 8, 20,
+    /// 21, 23 (the cell is locked), in this order.
     try_toggle, pm_try_toggle(row: usize, col: usize, change: &mut i64);
 
-    /// An attempt to swap the dots at (row, col) and (row2, col2); change as above. Draws 1 to 9, 20, 21, 22.
+    /// An attempt to swap the dots at (row, col) and (row2, col2); change as above. Draws 1 to 7, 16, 8, 9, 20, 21, 23
+    /// (one of the cells is locked), 22, in this order.
     try_swap, pm_try_swap(row: usize, col: usize, row2: usize, col2: usize, change: &mut i64);
 
-    /// A toggle scan: a toggle is attempted at every cell, row by row. changes is how many were accepted. Draws 1 to 7,
-    /// 20, 21.
+    /// A toggle scan: a toggle is attempted at every cell that is not locked, row by row. changes is how many were
+    /// accepted. Draws 1 to 7, 16, 20, 21.
     toggle_scan, pm_toggle_scan(changes: &mut u64);
 
     /// A swap scan: at every cell, row by row, the swaps with the cells within reach are attempted, farthest first, up to
-    /// the first that is accepted. changes is how many were accepted. Draws 1 to 7, 20, 21.
+    /// the first that is accepted. Locked cells are passed over, as cell and as partner. changes is how many were
+    /// accepted. Draws 1 to 7, 16, 20, 21.
     swap_scan, pm_swap_scan(changes: &mut u64);
 
     /// A settling: toggle scans until one accepts nothing, then a swap scan; if that accepted something, again. scans is
-    /// how many scans were made. Draws 1 to 7, 20, 21.
+    /// how many scans were made. Draws 1 to 7, 16, 20, 21.
     converge, pm_converge(scans: &mut u64);
 }
 
@@ -294,7 +302,8 @@ pub fn write_sheet(
 
 /// Checks a filed sheet: what the program `settle` prints for a plate, a sheet with start 2 and two lines of figures.
 /// The sheet, and the table of its dots, then stand at the front of the slices; what lies past stays. Draws 5 (verdict
-/// of another length than [`VERDICT`]), 10, 11, 12 and 6 with the byte offset, which is written only then.
+/// of another length than [`VERDICT`]), 10, 11, 12 and 6 with the byte offset, which is written only then. Dots that
+/// contradict a locked cell are not refused here: figure and ledger are judged as ever, and rest is -16.
 ///
 /// ```
 /// use platemaker::{check_filed, VERDICT, VERDICT_AGREES, VERDICT_FITS, VERDICT_RESTS};
@@ -307,6 +316,11 @@ pub fn write_sheet(
 /// assert_eq!(verdict, [80_150, 80_150, 1, 1, 1, 2]);
 /// assert_eq!((verdict[VERDICT_AGREES], verdict[VERDICT_FITS], verdict[VERDICT_RESTS]), (1, 1, 1));
 /// assert_eq!(table, [530, 20]);
+///
+/// let locked = b"width height radius reach start\n1 1 0 0 2\npsf\n1\ngray\n255\ndots\n0\n\
+///     before after on off swaps scans\n65025 65025 0 0 0 2\n";
+/// assert_eq!(check_filed(locked, &mut psf, &mut gray, &mut dots, &mut table, &mut verdict, &mut offset), 0);
+/// assert_eq!(verdict[VERDICT_RESTS], -16);
 /// ```
 pub fn check_filed(
     bytes: &[u8],
@@ -356,8 +370,8 @@ pub fn read_pbm(file: &[u8], dots: &mut [u8], width: &mut usize, height: &mut us
 }
 
 /// Reads a raw PGM file (P5) to the front of gray, and its width and height; what lies past the cells stays. Gray is
-/// 255 less the stored value. Draws 14 (header, or length at one byte a cell), 15 (a maximum other than 255), 12 (gray
-/// too short), in this order.
+/// 255 less the stored value, so that white and black are locked. Draws 14 (header, or length at one byte a cell), 15 (a
+/// maximum other than 255), 12 (gray too short), in this order.
 pub fn read_pgm(file: &[u8], gray: &mut [u8], width: &mut usize, height: &mut usize) -> u32 {
     unsafe { header::pm_read_pgm(file.as_ptr(), file.len(), gray.as_mut_ptr(), gray.len(), width, height) }
 }

@@ -30,12 +30,16 @@ pub const REFUSED_INPUT: u32 = 13;
 pub const REFUSED_PICTURE: u32 = 14;
 /// The maximum of a PGM.
 pub const REFUSED_MAXIMUM: u32 = 15;
+/// Dots that contradict a locked cell: a dot on gray 0, or none on gray 255.
+pub const REFUSED_LOCKED_DOT: u32 = 16;
 /// A table entry that is not that of the dots.
 pub const REFUSED_TABLE: u32 = 20;
 /// Stats that do not fit the dots.
 pub const REFUSED_STATS: u32 = 21;
 /// A swap of equal dots.
 pub const REFUSED_EQUAL: u32 = 22;
+/// An attempt that names a locked cell.
+pub const REFUSED_LOCKED_CELL: u32 = 23;
 
 /// What a refusal number says.
 ///
@@ -63,9 +67,11 @@ pub fn refusal_text(number: u32) -> &'static str {
         REFUSED_INPUT => "input too long",
         REFUSED_PICTURE => "not one whole raw PBM or PGM of 1 to 256 by 1 to 256 cells",
         REFUSED_MAXIMUM => "maximum of a PGM other than 255",
+        REFUSED_LOCKED_DOT => "dot on gray 0, or none on gray 255, which are locked (1 and 254 are not)",
         REFUSED_TABLE => "table that is not that of the dots",
         REFUSED_STATS => "ledger that does not fit the dots",
         REFUSED_EQUAL => "swap of equal dots",
+        REFUSED_LOCKED_CELL => "attempt on gray 0 or 255, which are locked (1 and 254 are not)",
         _ => "unknown refusal",
     }
 }

@@ -1,12 +1,16 @@
 //! The baseline's scans and settling. While it runs, table and dots stand in one array with a margin round the plate, one
-//! key a cell: T at a blank, T + 2^30 at a dot, T + 2^29 in the margin, T there being what the window updates leave.
-//! |T| is below 2^28, so one comparison of keys tells whether a partner is on the plate, has the other dot and lowers E.
+//! key a cell: T at a blank, T + 2^30 at a dot, T + 2^29 at a locked cell and in the margin, T there being what the window
+//! updates leave. |T| is below 2^28, so one comparison of keys tells whether a partner is on the plate, is not locked, has
+//! the other dot and lowers E; and none is enough for the toggle of a locked cell.
 
 use super::sums::autocorrelation;
-use crate::plate::{Job, Plate, Stats, STATS_ERROR, STATS_OFF, STATS_ON, STATS_SWAPS};
+use crate::plate::{is_locked, Job, Plate, Stats, STATS_ERROR, STATS_OFF, STATS_ON, STATS_SWAPS};
 
+/// What is added to T: at a dot, and at a locked cell and in the margin. Keys of the latter are from `LIMIT` to `END`.
 const DOT: i32 = 1 << 30;
 const EDGE: i32 = 1 << 29;
+const LIMIT: i32 = EDGE - (1 << 28);
+const END: i32 = EDGE + (1 << 28);
 
 /// A worth that no swap makes up for.
 const FAR: i32 = 1 << 29;
@@ -83,9 +87,9 @@ impl<const LANES: usize, const ANY_FIRST: bool> Search<LANES, ANY_FIRST> {
         };
         for row in 0..job.height {
             let cells = row * job.width..(row + 1) * job.width;
-            let filled = plate.table[cells.clone()].iter().zip(&plate.dots[cells]);
-            for (key, (&t, &dot)) in search.row_mut(row).iter_mut().zip(filled) {
-                *key = t + DOT * i32::from(dot);
+            let filled = plate.table[cells.clone()].iter().zip(&plate.dots[cells.clone()]).zip(&job.gray[cells]);
+            for (key, ((&t, &dot), &gray)) in search.row_mut(row).iter_mut().zip(filled) {
+                *key = t + if is_locked(gray) { EDGE } else { DOT * i32::from(dot) };
             }
         }
         search
@@ -96,8 +100,11 @@ impl<const LANES: usize, const ANY_FIRST: bool> Search<LANES, ANY_FIRST> {
             let cells = row * self.width..(row + 1) * self.width;
             let filled = plate.table[cells.clone()].iter_mut().zip(&mut plate.dots[cells]);
             for (&mut key, (t, dot)) in self.row_mut(row).iter_mut().zip(filled) {
-                *dot = u8::from(is_dot(key));
-                *t = key - DOT * i32::from(*dot);
+                (*t, *dot) = match key {
+                    ..LIMIT => (key, 0),
+                    END.. => (key - DOT, 1),
+                    _ => (key - EDGE, *dot),
+                };
             }
         }
         plate.stats = self.stats;
@@ -161,12 +168,14 @@ impl<const LANES: usize, const ANY_FIRST: bool> Search<LANES, ANY_FIRST> {
         let key = self.keys[m];
         let near: &[i32; NEAR] = self.keys[m - self.reach_back..][..NEAR].try_into().expect("that many");
         let key_of = |p: &Partner| near[p.at as usize % NEAR];
-        if is_dot(key) {
+        if key > END {
             let limit = key - DOT;
             if ANY_FIRST && !self.any(near, |key, worth| key < limit - worth) {
                 return None;
             }
             first(&self.partners, |p| key_of(p) < limit - p.worth)
+        } else if key > LIMIT {
+            None
         } else {
             let limit = key + DOT;
             if ANY_FIRST && !self.any(near, |key, worth| key > limit + worth) {
@@ -217,6 +226,7 @@ impl<const LANES: usize, const ANY_FIRST: bool> Search<LANES, ANY_FIRST> {
     }
 }
 
+/// Of a cell that is not locked.
 fn is_dot(key: i32) -> bool {
     key > EDGE
 }

@@ -1,6 +1,7 @@
 -- What the check answers of a filed sheet that was read whole, for which there is room (`Whole`).
 --   roomy, table-long          the room
 --   blocks-good, figures-few   its blocks are good, and its figures fit
+--   is-given                   its dots are given
 --   sum-refused                6, of a psf that sums to 0 or to more than 1,024
 --   plate, in-fronts, checked  else the sheet is a plate, it stands in the fronts of the buffers, and it is judged
 use mathlib.Core.Bool.{true}
@@ -115,6 +116,9 @@ module _ {bytes psf gray dots : List ℕ} {table : List ℤ} {h : Head} {p : Fil
 
   abbrev handed : CheckBuffers
   handed = record { psf = psf; gray = gray; dots = dots; table = table }
+
+  pub is-given : h .measures .start ≡ 2
+  is-given = filed .is-given
 
   pub figures-few : AtMost mostFigure (figuresIn (p .figures))
   figures-few = filed .figures-most

@@ -34,7 +34,7 @@ fn judge_front(
     table: &mut [i32],
     f: FiledFigures,
 ) -> Verdict
-    requires { ⌜ InRange m × (cellsOf m ≤ length (now table)) × AtMost mostFigure (figuresIn f) ⌝ }
+    requires { ⌜ InRange m × (m .start ≡ 2) × (cellsOf m ≤ length (now table)) × AtMost mostFigure (figuresIn f) ⌝ }
     requires { ⌜ (let s = frontOf m (now psf) (now gray) (now dots) in
         PlateFits m (s .psf) (s .gray) (s .dots) (cellsOf m)) ⌝ }
     ensures { λ r. ⌜ r ≡ verdictOf (frontOf m (now (psf .entry)) (now (gray .entry)) (now (dots .entry))) f ⌝ }

@@ -3,6 +3,7 @@
 --   measured-by           a plate whose table was filled and whose squared error was worked out
 --   figure-by             the figure, by the bits of the two numbers
 --   unstarted, started    rest, by the number with which a start is refused
+--   startable-by          what a start takes, its dots being given, holds the locks
 --   ledger-by             the ledger, by the number that 21 draws
 use mathlib.Core.Bool.{Bool, true, false, not}
 use mathlib.Core.List.{List, [], _∷_}
@@ -10,7 +11,7 @@ use mathlib.Core.Path.{_≡_, refl, sym, _∙_, ap, subst}
 use Prim.Native.Nat.{ℕ, zero, suc, _+_, _-_, _≤_, _<_}
 use native.Mathlib.Omega.{arith}
 use borrow.Author.Tests.{eqb-true, eqb-false}
-use lib.Dec.{eqb}
+use lib.Dec.{eqb, lit≤}
 use lib.IntN.{ℤ, pos, negsuc, _+ℤ_, _-ℤ_}
 use lib.ListN.{length}
 use mir.Syntax.{w64}
@@ -23,12 +24,15 @@ use Rattle.model.specs.declared.Stats.{Stats}
 use Rattle.model.specs.Basic.{pick}
 use Rattle.model.specs.Error.{Target, targetFor, cells, filteredErrors, squaredError}
 use Rattle.model.specs.Ledger.{countOf, dotTotal, unequal, wrongStats}
-use Rattle.model.specs.Refusal.{firstOf, PlateFits}
+use Rattle.model.specs.Lock.{LocksHold}
+use Rattle.model.specs.Refusal.{firstOf, startRefusal, PlateFits}
 use Rattle.model.specs.FiledCalls.{ledgerFits, restingOf}
 use Rattle.model.proofs.Error.{filtered-long}
+use Rattle.model.proofs.Refusal.{start-hold}
+use Rattle.model.proofs.Screen.{is-given}
 use Rattle.model.proofs.State.{same}
 use Rattle.judge_ledger.proofs.Tests.{apart}
-use Rattle.filed_rest.specs.Measured.{Measured}
+use Rattle.filed_rest.specs.Measured.{Measured, Startable}
 
 -- ---- the dots at the start: those on the plate - on + off
 module _ (n on off : ℕ) where
@@ -78,6 +82,18 @@ unstarted (suc n) b e h = ap Unstarted e
 pub started : {x : ℕ} (number : ℕ) {b c : Bool} → x ≡ number → x ≡ 0 → b ≡ c → pick b Rests Lowers ≡ restingOf number c
 started number {b} {c} e z f =
     subst (λ k. pick b Rests Lowers ≡ restingOf k c) (sym z ∙ e) (ap (λ d. pick d Rests Lowers) f)
+
+pub startable-by : (m : Measures) (psf gray dots : List ℕ) (n : ℕ) {table : List ℤ} {squared : ℤ} {x : ℕ}
+    → Measured m psf gray dots table squared → m .start ≡ 2 → x ≡ startRefusal m psf gray dots n → x ≡ 0
+    → Startable m psf gray dots table squared
+startable-by m psf gray dots n f given e z =
+    let no-kind : (k : ℕ) → k < 2 → m .start ≡ k → ⊥ = λ k h i. omega (arith, given, i) in
+    record {
+      measured = f;
+      locks =
+          subst (LocksHold (targetFor m psf gray)) (is-given m gray dots (no-kind 0 (lit≤ tt)) (no-kind 1 (lit≤ tt)))
+          (start-hold m psf gray dots n (sym e ∙ z));
+    }
 
 -- ---- the ledger
 pub ledger-by : (t : Target) (dots : List ℕ) (s : Stats) {x n total : ℕ} {squared : ℤ} {s′ : Stats}

@@ -71,7 +71,7 @@ fn ledger_fits(
     judge_ledger(table.len(), squared, count, stats) == 0
 }
 
-// at rest or not, unless a start would refuse the sheet
+// at rest or not, unless a start would refuse the sheet, whose dots are given
 fn resting(
     m: Measures,
     psf: &[u8],
@@ -80,7 +80,7 @@ fn resting(
     table: &[i32],
     squared: i64,
 ) -> Resting
-    requires { ⌜ Measured m (now psf) (now gray) (now dots) (now table) squared ⌝ }
+    requires { ⌜ Measured m (now psf) (now gray) (now dots) (now table) squared × (m .start ≡ 2) ⌝ }
     ensures { λ r. ⌜ r ≡ restingOf (startRefusal m (now (psf .entry)) (now (gray .entry)) (now (dots .entry))
         (cellsOf m)) (rests (targetFor m (now (psf .entry)) (now (gray .entry))) (m .reach) (now (dots .entry))) ⌝ }
 {
@@ -104,7 +104,7 @@ pub fn judge_plate(
     f: FiledFigures,
 ) -> Verdict
     requires { ⌜ PlateFits m (now psf) (now gray) (now dots) (length (now table)) ⌝ }
-    requires { ⌜ AtMost mostFigure (figuresIn f) ⌝ }
+    requires { ⌜ AtMost mostFigure (figuresIn f) × (m .start ≡ 2) ⌝ }
     ensures { λ r. ⌜ r ≡ verdictOf (sheetWith m (now (psf .entry)) (now (gray .entry)) (now (dots .entry))) f ⌝ }
     ensures { λ _. ⌜ now (table .exit)
         ≡ filteredErrors (targetFor m (now (psf .entry)) (now (gray .entry))) (now (dots .entry)) ⌝ }

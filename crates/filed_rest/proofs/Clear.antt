@@ -27,7 +27,7 @@ use Rattle.model.proofs.Scan.{sweep-still}
 use Rattle.invariants.specs.Plate.{Ready, Leaves}
 use Rattle.invariants.specs.Trials.{performed}
 use Rattle.invariants.specs.Window.{HoldsKernel}
-use Rattle.filed_rest.specs.Measured.{Measured}
+use Rattle.filed_rest.specs.Measured.{Startable}
 
 module _ (m : Measures) (psf gray dots : List ℕ) {s : Stats} (fresh : s ≡ freshStats (targetFor m psf gray) dots) where
   abbrev t : Target
@@ -44,15 +44,17 @@ module _ (m : Measures) (psf gray dots : List ℕ) {s : Stats} (fresh : s ≡ fr
   abbrev toggled : Sweep
   toggled = sweep t (toggles t) first
 
-  pub fresh-ready : {c table : List ℤ} {squared : ℤ} → Measured m psf gray dots table squared
+  pub fresh-ready : {c table : List ℤ} {squared : ℤ} → Startable m psf gray dots table squared
       → HoldsKernel (m .radius) psf c → AtMost 255 gray → Ready m psf gray c dots table s
-  fresh-ready f kernel bytes =
+  fresh-ready g kernel bytes =
+      let f = g .measured in
       let h = f .plate .halftone in
       let state = fresh-fits t dots (h .bits) (h .dots-length) (squared-least h) (squared-most h bytes) in
       record {
         later =
             record {
               plate = f .plate;
+              locks = g .locks;
               state =
                   subst (λ (X : Type 0). X) (λ i. StateFits t dots (sym (f .table-is) i) (sym fresh i)) state;
             };

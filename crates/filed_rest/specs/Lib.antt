@@ -1,2 +1,2 @@
--- A definition that the contracts of this crate use.
+-- What the contracts of this crate ask of a plate.
 pub mod Measured

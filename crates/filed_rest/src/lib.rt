@@ -1,8 +1,8 @@
-// Whether a judged plate is at rest: a toggle scan and a swap scan of a copy accept nothing.
+// Whether a plate that a start takes is at rest: a toggle scan and a swap scan of a copy accept nothing.
 ghost use mathlib.Core.Path.{_≡_};
 ghost use Rattle.model.specs.Error.{targetFor};
 ghost use Rattle.model.specs.FiledCalls.{rests};
-ghost use Rattle.filed_rest.specs.Measured.{Measured};
+ghost use Rattle.filed_rest.specs.Measured.{Startable};
 use filter_correlate::kernel;
 use model::MOST_CELLS;
 use model::Measures;
@@ -21,7 +21,7 @@ fn scans_clear(
     table: &mut [i32],
     squared: i64,
 ) -> bool
-    requires { ⌜ Measured m (now psf) (now gray) (now dots) (now table) squared ⌝ }
+    requires { ⌜ Startable m (now psf) (now gray) (now dots) (now table) squared ⌝ }
     ensures { λ r. ⌜ r ≡ rests (targetFor m (now (psf .entry)) (now (gray .entry))) (m .reach) (now (dots .entry)) ⌝ }
 {
     let c = kernel(m.radius, psf);
@@ -34,7 +34,7 @@ fn scans_clear(
     swapped.changes == 0
 }
 
-// Whether a judged plate with its table and its squared error is at rest.
+// Whether a plate that a start takes, with its table and its squared error, is at rest.
 pub fn at_rest(
     m: Measures,
     psf: &[u8],
@@ -43,7 +43,7 @@ pub fn at_rest(
     table: &[i32],
     squared: i64,
 ) -> bool
-    requires { ⌜ Measured m (now psf) (now gray) (now dots) (now table) squared ⌝ }
+    requires { ⌜ Startable m (now psf) (now gray) (now dots) (now table) squared ⌝ }
     ensures { λ r. ⌜ r ≡ rests (targetFor m (now (psf .entry)) (now (gray .entry))) (m .reach) (now (dots .entry)) ⌝ }
 {
     let n = dots.len();

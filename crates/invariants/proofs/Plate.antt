@@ -81,6 +81,9 @@ module _ {m : Measures} {psf gray : List ℕ} {c : List ℤ} {dots : List ℕ} {
       pub on-dots : cellOf (m .width) at < length dots
       on-dots = rw (j .plate .halftone .dots-length) on-plate
 
+      pub on-gray : cellOf (m .width) at < length gray
+      on-gray = rw (j .plate .halftone .gray-length) on-plate
+
       pub on-table : cellOf (m .width) at < length table
       on-table = rw (j .plate .halftone .table-length) on-plate
 

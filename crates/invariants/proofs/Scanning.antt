@@ -1,6 +1,7 @@
 -- What holds while a scan is under way, by whatever rule.
 --   visit-none                         nothing is accepted at a cell, and all stays
---   toggle-declined, toggle-accepted   a toggle scan at a cell
+--   toggle-locked, toggle-declined     a toggle scan at a cell that is locked, or where a toggle does not lower E
+--   toggle-accepted                    and where it does
 --   attempt-advances                   what an attempt answers advances a scan that attempts just that
 --   Scanning                           the cells before this one done, what is there is the reference's
 --   scanning-start, scanning-ready     it starts from what a later call is handed, and later calls accept what is there
@@ -8,7 +9,7 @@
 --   scanning-next, scanning-ahead      one cell more; a run of cells more, where nothing is accepted at any
 --   scanning-end, scan-leaves          every cell done, and what the scan answers then
 use mathlib.Core.Bool.{true, false}
-use mathlib.Core.List.{List, []}
+use mathlib.Core.List.{List, [], _∷_}
 use mathlib.Core.Path.{_≡_, refl, sym, _∙_, ap, ap₂, subst}
 use Prim.Native.Nat.{ℕ, zero, suc, _+_, _*_, _^_, _≤_, _<_}
 use native.Mathlib.Nat.{mul-le-mul-right}
@@ -23,11 +24,13 @@ use Rattle.model.specs.declared.Progress.{Progress}
 use Rattle.model.specs.declared.ScanResult.{ScanResult}
 use Rattle.model.specs.Basic.{pick}
 use Rattle.model.specs.Error.{Target, targetFor, cells, filteredErrors}
+use Rattle.model.specs.Lock.{locked, Free}
 use Rattle.model.specs.Change.{Move, toggle, lowers}
 use Rattle.model.specs.Calls.{Reply}
 use Rattle.model.specs.Reference.{Reference, reference, accept, statsOf, Tried, attempt}
 use Rattle.model.specs.State.{LaterFits}
 use Rattle.model.specs.Scan.{Rule, toggles, Sweep, tryEach, sweepTo, sweep, progressOf, resultOf, scan}
+use Rattle.model.proofs.Basic.{pick-cases}
 use Rattle.model.proofs.Attempts.{Sound, entry-stats, attempt-by}
 use Rattle.model.proofs.Scan.{Lawful, more, try-none, try-step, sweep-later, sweep-counts}
 use Rattle.invariants.specs.Plate.{OnPlate, cellOf, Leaves, asReply}
@@ -49,17 +52,30 @@ visit-none {m} {psf} {gray} {dots} {table} {r} f e =
 
 -- a toggle scan
 module _ (t : Target) (dots : List ℕ) (r : Progress) (n : ℕ) where
+  -- a cell that is not locked is tried
+  tried : Free t n → toggles t dots n ≡ toggle dots n ∷ []
+  unfolding toggles
+  tried free = ap (λ b. pick b [] (toggle dots n ∷ [])) free
+
+  pub toggle-locked : locked (t .gray) n ≡ true → visit t (toggles t) dots r n ≡ sweepOf dots r
+  unfolding toggles
+  toggle-locked e =
+      ap (λ b. tryEach t (sweepOf dots r) (pick b [] (toggle dots n ∷ []))) e ∙ try-none t (sweepOf dots r)
+
   pub toggle-declined : lowers t dots (toggle dots n) ≡ false → visit t (toggles t) dots r n ≡ sweepOf dots r
   unfolding toggles
   toggle-declined e =
+      pick-cases (λ l. tryEach t (sweepOf dots r) l ≡ sweepOf dots r) (locked (t .gray) n)
+      (λ b. try-none t (sweepOf dots r))
+      (λ b.
       try-step t (sweepOf dots r) (toggle dots n) []
-      ∙ ap₂ (λ b s. pick b (more (sweepOf dots r) (toggle dots n)) s) e (try-none t (sweepOf dots r))
+      ∙ ap₂ (λ b s. pick b (more (sweepOf dots r) (toggle dots n)) s) e (try-none t (sweepOf dots r)))
 
-  pub toggle-accepted : lowers t dots (toggle dots n) ≡ true
+  pub toggle-accepted : Free t n → lowers t dots (toggle dots n) ≡ true
       → visit t (toggles t) dots r n ≡ more (sweepOf dots r) (toggle dots n)
-  unfolding toggles
-  toggle-accepted e =
-      try-step t (sweepOf dots r) (toggle dots n) []
+  toggle-accepted free e =
+      ap (tryEach t (sweepOf dots r)) (tried free)
+      ∙ try-step t (sweepOf dots r) (toggle dots n) []
       ∙ ap (λ b. pick b (more (sweepOf dots r) (toggle dots n)) (tryEach t (sweepOf dots r) [])) e
 
 -- what an attempt answers advances a scan that attempts just that

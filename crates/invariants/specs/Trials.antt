@@ -10,6 +10,7 @@ use lib.Signed.{ltZ}
 use Rattle.model.specs.declared.Progress.{Progress}
 use Rattle.model.specs.Change.{sign, swap, lowers}
 use Rattle.model.specs.Error.{Target}
+use Rattle.model.specs.Lock.{locked}
 use Rattle.model.specs.Partners.{Offset, offsets, partner}
 use Rattle.model.specs.Calls.{Reply, result, refused}
 use Rattle.model.specs.Reference.{reference, Performed, Tried, accepted, declined}
@@ -21,6 +22,11 @@ abbrev pub lowersBy : (dots : List ℕ) (table : List ℤ) (m n : ℕ) (worth : 
 lowersBy dots table m n worth =
     not (eqb (getD dots m 0) (getD dots n 0))
     && ltZ (sign dots m *ℤ (getD table m (pos 0) -ℤ getD table n (pos 0)) +ℤ worth) (pos 0)
+
+-- and neither of them is locked
+abbrev pub takesBy : (gray dots : List ℕ) (table : List ℤ) (m n : ℕ) (worth : ℤ) → Bool
+takesBy gray dots table m n worth =
+    not (locked gray m) && (not (locked gray n) && lowersBy dots table m n worth)
 
 -- what a scan has come to once an attempt has answered
 abbrev pub advanced : Progress → Reply Tried → Progress

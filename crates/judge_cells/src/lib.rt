@@ -1,13 +1,14 @@
-// Judging the cells that an attempt names: 8 and 9 by their places, 22 by their dots. Each function answers the number
-// of the refusal that is drawn, 0 for none.
+// Judging the cells that an attempt names: 8 and 9 by their places, 23 by their gray, 22 by their dots. Each function
+// answers the number of the refusal that is drawn, 0 for none.
 ghost use mathlib.Core.List.{[], _∷_};
 ghost use mathlib.Core.Path.{_≡_};
 ghost use Prim.Native.Nat.{_<_};
 ghost use lib.ListN.{length};
 ghost use Rattle.model.specs.Refusal.{firstOf, gap, badCell, badCells, badPair};
-ghost use Rattle.model.specs.State.{badLike};
+ghost use Rattle.model.specs.State.{badLocked, badLockedPair, badLike};
 use judge_parts::first;
 use model::Cell;
+use slices::is_locked;
 
 // 8: a cell off the plate
 pub fn judge_cell(width: usize, height: usize, at: Cell) -> u32
@@ -58,6 +59,25 @@ pub fn judge_pair(reach: usize, at: Cell, to: Cell) -> u32
         return 0;
     }
     9
+}
+
+// 23: a locked cell, of those on the plate
+pub fn judge_free(gray: &[u8], m: usize) -> u32
+    requires { ⌜ m < length (now gray) ⌝ }
+    ensures { λ r. ⌜ r ≡ firstOf (badLocked (now (gray .entry)) m ∷ []) ⌝ }
+{
+    if is_locked(gray[m]) { 23 } else { 0 }
+}
+
+// 23 of a swap, which names two cells
+pub fn judge_free_pair(gray: &[u8], m: usize, n: usize) -> u32
+    requires { ⌜ (m < length (now gray)) × (n < length (now gray)) ⌝ }
+    ensures { λ r. ⌜ r ≡ firstOf (badLockedPair (now (gray .entry)) m n ∷ []) ⌝ }
+{
+    if is_locked(gray[m]) {
+        return 23;
+    }
+    judge_free(gray, n)
 }
 
 // 22: equal dots, of two cells on the plate

@@ -1,5 +1,5 @@
-// The lists of refusals because of the input, 1 to 7, of each call that is not a reader: each function answers the
-// number of the first that is drawn, 0 for none.
+// The lists of refusals because of the input, 1 to 7 and 16, of each call that is not a reader: each function answers
+// the number of the first that is drawn, 0 for none.
 ghost use mathlib.Core.List.{[], _∷_};
 ghost use mathlib.Core.Path.{_≡_};
 ghost use Rattle.model.specs.Refusal.{firstOf, handed, inputRefusals};
@@ -8,7 +8,9 @@ use judge_parts::first;
 use judge_parts::judge_all_measures;
 use judge_parts::judge_dots;
 use judge_parts::judge_given;
+use judge_parts::judge_given_locks;
 use judge_parts::judge_lengths;
+use judge_parts::judge_locks;
 use judge_parts::judge_measures;
 use judge_parts::judge_slices;
 use model::Measures;
@@ -31,7 +33,7 @@ pub fn judge_handed(measures: Measures, psf: &[u8], gray: usize, dots: usize, ta
     )
 }
 
-// 1 to 7, of a call that is handed a table of that length and a ledger
+// 1 to 7 and 16, of a call that is handed a table of that length and a ledger
 pub fn judge_later(measures: Measures, psf: &[u8], gray: &[u8], dots: &[u8], table: usize) -> u32
     ensures { λ r. ⌜ r ≡ firstOf
         (inputRefusals measures (now (psf .entry)) (now (gray .entry)) (now (dots .entry)) table) ⌝ }
@@ -40,7 +42,9 @@ pub fn judge_later(measures: Measures, psf: &[u8], gray: &[u8], dots: &[u8], tab
     if input != 0 {
         return input;
     }
-    judge_dots(dots)
+    let bytes = judge_dots(dots);
+    let locks = judge_locks(gray, dots);
+    first(bytes, locks)
 }
 
 // the whole list of the filtered error, handed a table of that length
@@ -85,7 +89,9 @@ pub fn judge_start(measures: Measures, psf: &[u8], gray: &[u8], dots: &[u8], tab
     if input != 0 {
         return input;
     }
-    judge_given(measures.start, dots)
+    let given = judge_given(measures.start, dots);
+    let locks = judge_given_locks(measures.start, gray, dots);
+    first(given, locks)
 }
 
 // the whole list of the writer of a sheet

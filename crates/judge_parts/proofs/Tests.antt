@@ -2,7 +2,7 @@
 --   above-here, above-next  whether one of the bytes from an index on is above a bound, as a loop takes it
 --   tests                   the laws by which a return is read off its tests
 --   sized, measured         what is known once 1 and 2 are judged; once 1 to 4 are
---   psf-most                once 5 is
+--   psf-most, handed-long   once 5 is; once 1 to 6 are
 use mathlib.Core.Bool.{true, not}
 use mathlib.Core.List.{List, [], _∷_}
 use mathlib.Core.Path.{_≡_}
@@ -19,9 +19,10 @@ use mir.Val.{Fits}
 use Rattle.algebra.proofs.Machine.{factors-fit}
 use Rattle.model.specs.Error.{mostCells}
 use Rattle.model.specs.Refusal.{Refusal, firstOf, differs, above, badSize, badRadius, badReach, badKind, badLength}
-use Rattle.model.specs.Refusal.{badMeasures}
+use Rattle.model.specs.Refusal.{badMeasures, handed}
 use Rattle.model.specs.declared.Measures.{Measures}
-use Rattle.model.proofs.Refusal.{numbered, none, neither, size-inside}
+use Rattle.model.proofs.Basic.{neither}
+use Rattle.model.proofs.Refusal.{numbered, none, size-inside, alike}
 
 module _ (l : List ℕ) (i : ℕ) (h : i < length l) where
   pub above-here : (k : ℕ) → k < getD l i 0 → above k (drop i l) ≡ true
@@ -58,3 +59,14 @@ psf-most r psf cells lengths h e z =
     let wrong = neither (not (eqb (length psf) (side * side))) (differs cells lengths) exact .0 in
     let is = eqb-true (length psf) (side * side) (not-false _ wrong) in
     omega (arith, mul-le-mul {n₁ = side} {m₁ = side} {n₂ = 7} {m₂ = 7} (omega arith) (omega arith))
+
+-- where none of 1 to 6 is drawn, gray and dots are as long as the cells
+pub handed-long : (m : Measures) (psf : List ℕ) (gray dots table : ℕ) {x : ℕ}
+    → x ≡ firstOf (handed m psf (gray ∷ dots ∷ table ∷ [])) → x ≡ 0
+    → (gray ≡ m .height * m .width) × (dots ≡ m .height * m .width)
+handed-long m psf gray dots table e z =
+    let side : ℕ = 2 * m .radius + 1 in
+    let lengths : List ℕ = gray ∷ dots ∷ table ∷ [] in
+    let (_, (_, (_, (_, (exact, _))))) = none (handed m psf lengths) tt e z in
+    let (_, (g, (d, _))) = alike (side * side) (m .height * m .width) (length psf) lengths exact in
+    (g, d)

@@ -1,11 +1,16 @@
 // Judging what a call is handed, one refusal or two at a time: each function answers the number of the first that is
 // drawn, 0 for none.
-ghost use mathlib.Core.List.{[], _∷_};
+ghost use mathlib.Core.Bool.{_&&_, not};
+ghost use mathlib.Core.List.{List, [], _∷_};
 ghost use mathlib.Core.Path.{_≡_};
-ghost use Prim.Native.Nat.{_≤_};
+ghost use Prim.Native.Nat.{ℕ, _*_, _≤_};
+ghost use lib.Dec.{eqb};
+ghost use lib.ListN.{length};
+ghost use Rattle.model.specs.Error.{targetOf};
+ghost use Rattle.model.specs.Lock.{lockedGray, lockedByte, contradiction};
 ghost use Rattle.model.specs.Refusal.{firstOf, above, badSize, badRadius, badReach, badKind, badLength, badSum};
 ghost use Rattle.invariants.specs.Refusal.{either};
-ghost use Rattle.model.specs.Refusal.{badDot, badGiven, badMeasures};
+ghost use Rattle.model.specs.Refusal.{badDot, badGiven, badLocks, badGivenLocks, badMeasures};
 use model::Measures;
 use slices::sum;
 
@@ -21,6 +26,29 @@ fn any_above(limit: u8, bytes: &[u8]) -> bool
         i += 1;
     }
     false
+}
+
+// whether a dot is not the one that its gray locks it to
+fn contradicts(gray: u8, dot: u8) -> bool
+    ensures { λ r. ⌜ r ≡ lockedGray gray && not (eqb dot (lockedByte 1 gray)) ⌝ }
+{
+    ((gray == 0) & (dot != 0)) | ((gray == 255) & (dot != 1))
+}
+
+// whether some dot is not, whatever the size, radius and psf; it never branches, so that the compiler takes many cells at
+// a time
+fn any_contradiction(gray: &[u8], dots: &[u8]) -> bool
+    requires { ⌜ length (now dots) ≡ length (now gray) ⌝ }
+    ensures { λ any. ⌜ ((w h r : ℕ) (psf : List ℕ) → h * w ≡ length (now (gray .entry))
+        → any ≡ contradiction (targetOf w h r psf (now (gray .entry))) (now (dots .entry))) ⌝ }
+{
+    let mut any = false;
+    let mut n: usize = 0;
+    while n < gray.len() {
+        any |= contradicts(gray[n], dots[n]);
+        n += 1;
+    }
+    any
 }
 
 // the first of two numbers that is not 0
@@ -147,4 +175,25 @@ pub fn judge_given(kind: usize, dots: &[u8]) -> u32
         return 0;
     }
     judge_dots(dots)
+}
+
+// 16: a dot that contradicts a locked cell, whatever the size, radius and psf
+pub fn judge_locks(gray: &[u8], dots: &[u8]) -> u32
+    requires { ⌜ length (now dots) ≡ length (now gray) ⌝ }
+    ensures { λ number. ⌜ ((w h r : ℕ) (psf : List ℕ) → h * w ≡ length (now (gray .entry))
+        → number ≡ firstOf (badLocks (targetOf w h r psf (now (gray .entry))) (now (dots .entry)) ∷ [])) ⌝ }
+{
+    if any_contradiction(gray, dots) { 16 } else { 0 }
+}
+
+// 16 at a start, of the dots given with kind 2 only
+pub fn judge_given_locks(kind: usize, gray: &[u8], dots: &[u8]) -> u32
+    requires { ⌜ length (now dots) ≡ length (now gray) ⌝ }
+    ensures { λ number. ⌜ ((w h r : ℕ) (psf : List ℕ) → h * w ≡ length (now (gray .entry))
+        → number ≡ firstOf (badGivenLocks kind (targetOf w h r psf (now (gray .entry))) (now (dots .entry)) ∷ [])) ⌝ }
+{
+    if kind == 2 {
+        return judge_locks(gray, dots);
+    }
+    0
 }

@@ -15,9 +15,8 @@ use Rattle.model.specs.Refusal.{firstOf}
 use Rattle.model.specs.State.{badTable, badStats}
 use Rattle.model.specs.declared.Stats.{Stats}
 use Rattle.model.specs.Basic.{someBelow}
-use Rattle.model.proofs.Basic.{getD-tabulate}
+use Rattle.model.proofs.Basic.{getD-tabulate, all-below}
 use Rattle.model.proofs.Refusal.{_nor_}
-use Rattle.model.proofs.State.{all-below}
 use Rattle.judge_ledger.proofs.Tests.{holds}
 
 -- ---- a test of the numbers below n, one after the other

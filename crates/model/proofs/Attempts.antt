@@ -28,6 +28,7 @@ use Rattle.model.specs.Lists.{tried, latest}
 use Rattle.model.specs.Promises.{Weighed, Tries}
 use Rattle.model.proofs.Basic.{pick-cases}
 use Rattle.model.proofs.Error.{filtered-long}
+use Rattle.model.proofs.Lock.{locks-made}
 use Rattle.model.proofs.State.{below, at-least}
 use Rattle.model.proofs.Reference.{halftone-made, fits-halftone, toggle-legal, swap-legal, accept-fits}
 use Rattle.model.proofs.Later.{toggle-enters, swap-enters, fits-later}
@@ -39,16 +40,16 @@ module _ (m : Measures) (psf gray dots : List ℕ) (table : List ℤ) (s : Stats
   pub toggle-ready : (row col : ℕ) → toggleRefusal m psf gray dots table s row col ≡ 0
       → LaterFits m psf gray dots table s × Legal (targetFor m psf gray) dots (toggle dots (cellAt (m .width) row col))
   toggle-ready row col taken =
-      let (fits, r, c) = toggle-enters m psf gray dots table s row col taken in
-      (fits, toggle-legal (targetFor m psf gray) dots (fits-halftone (fits .plate .halftone)) refl _ (cell< r c))
+      let (fits, (r, c), free) = toggle-enters m psf gray dots table s row col taken in
+      (fits, toggle-legal (targetFor m psf gray) dots (fits-halftone (fits .plate .halftone)) refl _ (cell< r c) free)
 
   pub swap-ready : (row col row′ col′ : ℕ) → swapRefusal m psf gray dots table s row col row′ col′ ≡ 0
       → LaterFits m psf gray dots table s
       × Legal (targetFor m psf gray) dots (swap dots (cellAt (m .width) row col) (cellAt (m .width) row′ col′))
   swap-ready row col row′ col′ taken =
-      let (fits, (r, c), (r′, c′), unlike) = swap-enters m psf gray dots table s row col row′ col′ taken in
+      let (fits, (r, c), (r′, c′), (free, free′), unlike) = swap-enters m psf gray dots table s row col row′ col′ taken in
       let halftone = fits-halftone (fits .plate .halftone) in
-      (fits, swap-legal (targetFor m psf gray) dots halftone _ _ (cell< r c) (cell< r′ c′) unlike)
+      (fits, swap-legal (targetFor m psf gray) dots halftone _ _ (cell< r c) (cell< r′ c′) free free′ unlike)
 
 -- ---- the two cases
 module _ (t : Target) (p : Reference) (v : Move) where
@@ -124,6 +125,7 @@ module _ (m : Measures) (psf gray dots : List ℕ) (table : List ℤ) (s : Stats
     accept-sound l =
         record {
           plate = plate;
+          locks = locks-made t dots (v .sets) (legal .free) (f .locks);
           state =
               accept-fits t (f .plate .halftone .wide .0) (lit≤ tt) dots (f .plate .halftone .dots-length) table s
               (f .state) v legal l;

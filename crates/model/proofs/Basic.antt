@@ -1,12 +1,13 @@
 -- Laws of the general definitions: a choice, a list by its entries, and an entry of a square.
 --   pick-cases, zero-cases             a choice by what is known of its test, or of a number that is tested for 0
+--   neither, none-below, all-below     where no test holds: of two, and of all below a number
 --   all-append                         what holds of every entry of two lists holds of the two together
 --   length-tabulate, getD-tabulate     the length and the entries of a list that is tabulated
 --   fill-none, fill-next, fill-all     a list that a loop fills from the front
 --   squareAt-inside, squareAt-outside  an entry of a square by the two cells that its offset lies between
 --   square-by                          a square that holds f inside, where f is 0 outside, holds f at every offset
 use mathlib.Core.Path.{_≡_, refl, sym, _∙_, ap, ap₂, subst}
-use mathlib.Core.Bool.{Bool, true, false}
+use mathlib.Core.Bool.{Bool, true, false, true≢false, _||_}
 use mathlib.Core.Logic.{_⊎_, inl, inr}
 use mathlib.Core.List.{List, [], _∷_, _++_, map}
 use Prim.Native.Nat.{ℕ, zero, suc, _+_, _*_, _-_, _≤_, _<_}
@@ -24,7 +25,29 @@ use Rattle.algebra.proofs.Solver.{ring!, reify}
 use Rattle.algebra.proofs.Order.{show≤, show<, show≡, read<, read≡}
 use Rattle.algebra.proofs.Grid.{cell<}
 use Rattle.algebra.proofs.Interval.{Supported2}
-use Rattle.model.specs.Basic.{pick, tabulate, All, AtMost, gridAt, squareAt}
+use Rattle.model.specs.Basic.{pick, someBelow, tabulate, All, AtMost, gridAt, squareAt}
+
+-- ---- no test holds
+pub neither : (a b : Bool) → a || b ≡ false → (a ≡ false) × (b ≡ false)
+neither true b h = absurd (true≢false h)
+neither false b h = (refl, h)
+
+pub none-below : (n : ℕ) (f : ℕ → Bool) → ((i : ℕ) → i < n → f i ≡ false) → someBelow n f ≡ false
+unfolding someBelow
+none-below zero f h = refl
+none-below (suc n) f h = rw (none-below n f (λ i k. h i (omega arith)), h n (omega arith)) refl
+
+pub all-below : (n : ℕ) (f : ℕ → Bool) → someBelow n f ≡ false → (i : ℕ) → i < n → f i ≡ false
+unfolding someBelow
+all-below zero f h i l = absurd (not-suc-le-zero l)
+all-below (suc n) f h i l = go (ℕ-discrete i n) (all-below n f (both .0) i)
+  where
+    both : (someBelow n f ≡ false) × (f n ≡ false)
+    both = neither (someBelow n f) (f n) h
+
+    go : Dec (i ≡ n) → (i < n → f i ≡ false) → f i ≡ false
+    go (yes e) ih = rw e (both .1)
+    go (no e) ih = ih (omega arith)
 
 -- ---- a choice whose test is known
 pick-yes {ℓ} : {A : Type ℓ} (b : Bool) (x y : A) → T b → pick b x y ≡ x

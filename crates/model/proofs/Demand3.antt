@@ -12,6 +12,7 @@ use Rattle.model.specs.declared.Measures.{Measures}
 use Rattle.model.specs.declared.Stats.{Stats}
 use Rattle.model.specs.Basic.{AtMost, All}
 use Rattle.model.specs.Error.{targetFor, filteredErrors, squaredError}
+use Rattle.model.specs.Lock.{LocksHold}
 use Rattle.model.specs.Ledger.{changes, ledgerDots, fallOf, dotTotal, freshStats}
 use Rattle.model.specs.State.{laterRefusal}
 use Rattle.model.specs.Reference.{Reference, statsOf}
@@ -82,6 +83,7 @@ module _ (m : Measures) (psf gray : List ℕ) where
           dots-are-bits =
               subst (λ h. (length (h .dots) ≡ m .height * m .width) × AtMost 1 (h .dots)) back
               (r .sound .plate .halftone .dots-length, r .sound .plate .halftone .bits);
+          locked-cells-are-untouched = subst (λ h. LocksHold t (h .dots)) back (r .sound .locks);
           start-error-is-kept = subst (λ h. h .stats .figures .«start_error» ≡ squaredError t first) back (r .kept .0);
           start-dots-are-kept = subst (λ h. h .stats .figures .«start_dots» ≡ dotTotal first) back (r .kept .1);
           dots-are-reference = ap (λ h. h .dots) held;
@@ -116,7 +118,7 @@ module _ (m : Measures) (psf gray : List ℕ) where
       Demand3 m psf gray first (record { dots = first; table = filteredErrors t first; stats = s }) l) value
       (from-start first (start-later m psf gray dots (length table) bytes taken) l))
 
-  -- handed on as left, nothing draws 20 or 21, nor 1 to 7: from whatever a later call accepts, and whatever the call
+  -- handed on as left, nothing draws 20 or 21, nor 1 to 7 or 16: from whatever a later call accepts, and whatever the call
   pub left-is-accepted : (h : Held) (c : Call) → laterRefusal m psf gray (h .dots) (h .table) (h .stats) ≡ 0
       → (let h′ = handOn h (call m psf gray h c) in laterRefusal m psf gray (h′ .dots) (h′ .table) (h′ .stats) ≡ 0)
   left-is-accepted h c e =

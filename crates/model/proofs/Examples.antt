@@ -1,12 +1,14 @@
--- The starred examples of document 01 hold (`examples`), and plates at rest break the half-peak bound on its other side
--- (`one-sided`): each figure is computed from the sums.
+-- The starred examples of document 01 hold (`examples`), plates at rest break the half-peak bound on its other side
+-- (`one-sided`), and others break it and both tests of rest at a locked cell (`of-unlocked`): each figure is computed
+-- from the sums.
 use mathlib.Core.Path.{refl}
 use native.Mathlib.Omega.{arith}
 use Rattle.algebra.specs.Sum.{sumTo, sumFrom}
 use Rattle.model.specs.Basic.{tabulate, gridAt, squareAt, someBelow}
 use Rattle.model.specs.Psf.{total, psfAt, autocorrelation}
 use Rattle.model.specs.Error.{kernel, error, filteredError, filteredErrors, squaredError}
-use Rattle.model.specs.Screen.{bayer, thresholdAt, ordered, startDots}
+use Rattle.model.specs.Lock.{locked}
+use Rattle.model.specs.Screen.{bayer, thresholdAt, blank, ordered, startDots}
 use Rattle.model.specs.Refusal.{above, startRefusal}
 use Rattle.model.specs.Ledger.{raised, wrongStats, freshStats}
 use Rattle.model.specs.State.{badTable}
@@ -20,13 +22,14 @@ use Rattle.model.specs.Sheet.{names, psfName, grayName, dotsName, sheetT
 use Rattle.model.specs.Format.{headFrom, body, fieldAt, headBy, bodyEnd, readSheet}
 use Rattle.model.specs.Program.{refusedText, figuresText, processedText, output}
 use Rattle.model.specs.Examples.{workedInput, workedOutput, Examples, dark, darkDots, light, lightDots, OneSided}
+use Rattle.model.specs.Examples.{ring, ringBlank, ringDot, OfUnlocked}
 use Rattle.model.specs.Change.{made, toggle, swap, change, lookFrom}
 use Rattle.model.proofs.Refusal.{none-above}
 use Rattle.model.proofs.Rest.{rest-tested}
 
 pub examples : Examples
 unfolding sumTo sumFrom tabulate gridAt squareAt psfAt autocorrelation kernel error filteredError filteredErrors
-    squaredError total bayer thresholdAt ordered startDots above someBelow badTable wrongStats toggleRefusal swapRefusal
+    squaredError total locked bayer thresholdAt blank ordered startDots above someBelow badTable wrongStats toggleRefusal swapRefusal
     made toggle swap raised accept statsOf change attempt laterCall toggleCall swapCall
     laterRefusal startRefusal freshStats startCall offsetsOf offsetsFrom offsets toggles swapsBy lookFrom tryEach
     sweepTo convergeIn convergeFrom converge convergeCall digits names psfName grayName dotsName sheetText
@@ -34,7 +37,10 @@ unfolding sumTo sumFrom tabulate gridAt squareAt psfAt autocorrelation kernel er
 examples =
     record {
       black-blank = refl;
-      black-toggle = refl;
+      black-change = refl;
+      black-start = refl;
+      black-blank-is-refused = refl;
+      black-dot-is-refused = refl;
       over-half-toggle = refl;
       under-half-toggle = refl;
       even-at-0 = refl;
@@ -64,7 +70,7 @@ examples =
 
 pub one-sided : OneSided
 unfolding sumTo sumFrom tabulate gridAt squareAt psfAt autocorrelation kernel error filteredError filteredErrors
-    squaredError above someBelow made toggle swap change
+    squaredError above someBelow locked made toggle swap change
 one-sided =
     record {
       dark-table = refl;
@@ -73,4 +79,21 @@ one-sided =
       light-table = refl;
       light-rests = rest-tested light lightDots (omega arith) refl (record { long = refl; bits = record { each = none-above 1 lightDots refl } }) refl refl;
       above-under-blank = λ h. h .le;
+    }
+
+pub of-unlocked : OfUnlocked
+unfolding sumTo sumFrom tabulate gridAt squareAt psfAt autocorrelation kernel error filteredError filteredErrors
+    squaredError above someBelow locked made toggle swap change
+of-unlocked =
+    record {
+      blank-ring-rests =
+          rest-tested (ring 31) ringBlank (omega arith) refl
+          (record { long = refl; bits = record { each = none-above 1 ringBlank refl } }) refl refl;
+      paper-toggle-lowers = refl;
+      paper-table = refl;
+      below-under-paper = λ h. h .le;
+      dot-ring-rests =
+          rest-tested (ring 32) ringDot (omega arith) refl
+          (record { long = refl; bits = record { each = none-above 1 ringDot refl } }) refl refl;
+      paper-swap-lowers = refl;
     }

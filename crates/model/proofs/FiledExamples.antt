@@ -4,6 +4,7 @@ use Rattle.algebra.specs.Sum.{sumTo, sumFrom}
 use Rattle.model.specs.Basic.{someBelow, tabulate, gridAt, squareAt}
 use Rattle.model.specs.Psf.{total, psfAt, autocorrelation}
 use Rattle.model.specs.Error.{kernel, error, filteredError, filteredErrors, squaredError}
+use Rattle.model.specs.Lock.{locked}
 use Rattle.model.specs.Refusal.{above, startRefusal}
 use Rattle.model.specs.Ledger.{raised, wrongStats}
 use Rattle.model.specs.Change.{made, toggle, swap, change, lookFrom}
@@ -21,7 +22,7 @@ use Rattle.model.specs.FiledExamples.{FiledExamples}
 
 pub filed-examples : FiledExamples
 unfolding sumTo sumFrom someBelow tabulate gridAt squareAt total psfAt autocorrelation kernel error filteredError
-    filteredErrors squaredError above startRefusal raised wrongStats made toggle swap change lookFrom offsetsOf
+    filteredErrors squaredError locked above startRefusal raised wrongStats made toggle swap change lookFrom offsetsOf
     offsetsFrom offsets accept toggles swapsBy tryEach sweepTo begin digits names psfName grayName dotsName headFrom
     headBy body fieldAt readByGrammar figureParts ledgerFits rests verdictOf checkSheet checkCall
 filed-examples =
@@ -32,6 +33,7 @@ filed-examples =
       not-at-rest = refl;
       no-fall = refl;
       too-many-on = refl;
+      dot-on-paper = refl;
       zero-before-figure = refl;
       figure-too-large = refl;
       no-figures = refl;

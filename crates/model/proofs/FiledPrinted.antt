@@ -17,6 +17,7 @@ use Rattle.model.specs.declared.Resting.the-variants.{Rests}
 use Rattle.model.specs.declared.Verdict.{Verdict}
 use Rattle.model.specs.Basic.{AtMost}
 use Rattle.model.specs.Error.{Target, filteredErrors, squaredError, mostSquared}
+use Rattle.model.specs.Lock.{LocksHold}
 use Rattle.model.specs.Ledger.{countOf, dotTotal}
 use Rattle.model.specs.State.{StateFits}
 use Rattle.model.specs.Reference.{Reference, statsOf}
@@ -35,7 +36,7 @@ use Rattle.model.proofs.Halftone.{squared-most}
 use Rattle.model.proofs.Converge.{converge-scans}
 use Rattle.model.proofs.Sheet.{entries-most, at-most-cons}
 use Rattle.model.proofs.Printed.{printed-sound, program-promises}
-use Rattle.model.proofs.FiledVerdicts.{filed-starts, verdicts-hold}
+use Rattle.model.proofs.FiledVerdicts.{verdicts-hold}
 use Rattle.model.proofs.FiledCheck.{check-answered}
 
 -- the dots at the start, told from those now
@@ -171,12 +172,13 @@ module _ (input : List ℕ) (none : Unrefused input) (s : Sheet) (given : IsShee
     checks =
         let f = sound .plate .halftone .psf-fits in
         let v = p .is-a-sheet .is-valid in
-        let said = verdicts-hold sheet figures v refl (f .sum-low) (f .sum-high) in (
+        let said = verdicts-hold sheet figures v refl (f .sum-low) (f .sum-high) in
+        let locks = subst (LocksHold t) (sym (p .dots-are-reference)) (sound .locks) in (
           verdictOf sheet figures,
           ap (λ o. o .reply) (check-answered (output input) psf gray dots table sheet figures checkable),
           said .figure-agrees-exactly .1 (p .after-is-of-dots),
           said .ledger-fits-exactly .1 fits,
-          said .rests-exactly .1 (filed-starts sheet v refl (f .sum-low) (f .sum-high), p .is-at-rest),
+          said .rests-exactly .1 (said .start-takes-it .1 locks, p .is-at-rest),
         )
 
 pub printed-checks : (input : List ℕ) → Unrefused input → (psf gray dots : List ℕ) (table : List ℤ)

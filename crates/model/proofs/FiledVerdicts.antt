@@ -1,11 +1,11 @@
 -- What the verdicts on a filed sheet say (`verdicts-hold`), for every sheet that a check answers.
 --   filed-plate    such a sheet is a plate that nothing refuses
---   filed-starts   so no start refuses it
+--   filed-starts   so a start refuses it with 16 or not at all
 --   rests-exactly  a plate is found at rest exactly where no toggle and no swap within reach lowers E
 --   verdicts-hold  the promises of the verdicts
 use mathlib.Core.Bool.{Bool, true, false, true≢false, and-eq-true-iff}
 use mathlib.Core.List.{List, [], _∷_}
-use mathlib.Core.Path.{_≡_, refl, sym, ap}
+use mathlib.Core.Path.{_≡_, refl, sym, _∙_, ap}
 use Prim.Native.Nat.{ℕ, zero, suc, _≤_, _<_}
 use native.Mathlib.Omega.{arith}
 use borrow.Author.Tests.{eqb-true, eq-eqb, not-true}
@@ -17,7 +17,7 @@ use Rattle.model.specs.declared.Resting.the-variants.{Rests, Lowers, Uns
 use Rattle.model.specs.Basic.{Exactly}
 use Rattle.model.specs.Psf.{total}
 use Rattle.model.specs.Error.{Target, cells, filteredErrors, squaredError, Halftone}
-use Rattle.model.specs.Refusal.{firstOf, inputRefusals, startRefusal, PlateFits}
+use Rattle.model.specs.Refusal.{firstOf, badLocks, startRefusal, PlateFits}
 use Rattle.model.specs.State.{badStats}
 use Rattle.model.specs.Scan.{toggles, swaps, sweep}
 use Rattle.model.specs.Lists.{begin, Rest}
@@ -25,7 +25,7 @@ use Rattle.model.specs.Sheet.{Sheet, cellsOf, Valid}
 use Rattle.model.specs.Program.{sheetTarget}
 use Rattle.model.specs.FiledCalls.{filedStats, ledgerFits, rests, restingOf, verdictOf}
 use Rattle.model.specs.FiledPromises.{VerdictPromises}
-use Rattle.model.proofs.Refusal.{drawn-none, plate-none}
+use Rattle.model.proofs.Refusal.{first-passes, untilDots, plate-draws-none, draws-16}
 use Rattle.model.proofs.State.{same, equal, ledger-exactly}
 use Rattle.model.proofs.Reference.{fits-halftone}
 use Rattle.model.proofs.Scan.{sweep-still, sweep-calm}
@@ -51,15 +51,16 @@ filed-plate s v given low high =
       };
     }
 
--- so a start refuses none of them
-pub filed-starts : (s : Sheet) → Valid s → s .measures .start ≡ 2 → 1 ≤ total (s .psf) → total (s .psf) ≤ 1024
-    → startRefusal (s .measures) (s .psf) (s .gray) (s .dots) (cellsOf (s .measures)) ≡ 0
+-- so of what a start refuses only 16 is left
+filed-starts : (s : Sheet) → Valid s → s .measures .start ≡ 2 → 1 ≤ total (s .psf) → total (s .psf) ≤ 1024
+    → startRefusal (s .measures) (s .psf) (s .gray) (s .dots) (cellsOf (s .measures))
+    ≡ firstOf (badLocks (sheetTarget s) (s .dots) ∷ [])
 unfolding startRefusal
 filed-starts s v given low high =
     let m = s .measures in
-    let drawn = plate-none m (s .psf) (s .gray) (s .dots) (cellsOf m) (filed-plate s v given low high) in
     rw (eq-eqb (m .start) 2 given)
-    (drawn-none (inputRefusals m (s .psf) (s .gray) (s .dots) (cellsOf m)) drawn)
+    (first-passes [] (untilDots m (s .psf) (s .gray) (s .dots) (cellsOf m)) (badLocks (sheetTarget s) (s .dots) ∷ [])
+    (plate-draws-none m (s .psf) (s .gray) (s .dots) (cellsOf m) (filed-plate s v given low high)))
 
 -- ---- at rest
 module _ (t : Target) (reach : ℕ) (wide : 0 < t .width) (step : 0 < t .step) (one : t .top ≡ 1) (near : reach ≤ 6)
@@ -135,6 +136,8 @@ module _ (s : Sheet) (f : FiledFigures) (v : Valid s) (given : s .measures .star
       let (to-rest, from-rest) = found-exactly in
       let (is-rests, rests-so) = rests-is number found in
       let (is-lowers, lowers-so) = lowers-is number found in
+      let starts = filed-starts s v given low high in
+      let (takes, else) = draws-16 t (s .dots) in
       record {
         figure-agrees-exactly = (λ e. equal after squared (not-true _ e), λ e. rw (same e) refl);
         ledger-fits-exactly = (λ e. fits (eqb-true ledger 0 e), λ f. eq-eqb ledger 0 (is-fit f));
@@ -147,5 +150,6 @@ module _ (s : Sheet) (f : FiledFigures) (v : Valid s) (given : s .measures .star
           λ (n, r). lowers-so (n, λ b. r (to-rest b)),
         );
         unstarted-exactly = unstarted-is number found;
-        start-takes-it = filed-starts s v given low high;
+        start-takes-it = (λ e. takes .0 (sym starts ∙ e), λ f. starts ∙ takes .1 f);
+        else-16-is-drawn = (λ e. else .0 (sym starts ∙ e), λ f. starts ∙ else .1 f);
       }

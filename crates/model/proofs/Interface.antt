@@ -142,8 +142,8 @@ module _ (measures psf gray : List ℕ) where
           (over-slices measures psf gray (h .dots) (h .table) (h .stats) five six (drawn a) refl p)
 
       go : (c : Call) → callOver measures psf gray h c ≡ call m psf gray (heldIn h) c
-      go (toggleAt row col) = taken tried (toggleAsked m row col) _
-      go (swapAt row col row′ col′) = taken tried (swapAsked m (h .dots) row col row′ col′) _
+      go (toggleAt row col) = taken tried (toggleAsked m gray row col) _
+      go (swapAt row col row′ col′) = taken tried (swapAsked m gray (h .dots) row col row′ col′) _
       go toggleScan = taken swept noCell _
       go swapScan = taken swept noCell _
       go convergence = taken rested noCell _

@@ -6,6 +6,8 @@ pub mod Psf
 pub mod Error
 pub mod Spread
 pub mod Halftone
+-- Locked cells
+pub mod Lock
 -- One change
 pub mod Ledger
 pub mod Turn

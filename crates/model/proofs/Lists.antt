@@ -4,7 +4,7 @@
 --   call-same     a call beside the reference: refused alike, or both done
 --   call-later    later calls accept what a call leaves
 --   run-same      a list of calls beside the reference, with whatever each accepted change keeps
---   run-expected  the only refusals in a list are 8, 9 and 22
+--   run-expected  the only refusals in a list are 8, 9, 23 and 22
 use mathlib.Core.Bool.{true, false}
 use mathlib.Core.List.{List, [], _∷_, List·Memᴰ as In, List·Memᴰ·head as here, List·Memᴰ·tail as there}
 use mathlib.Core.Path.{_≡_, refl, sym, _∙_, ap, ap₂, subst}
@@ -105,11 +105,11 @@ module _ (m : Measures) (psf gray : List ℕ) where
         statsOf
     call-same (toggleAt row col) =
         let v : Move = toggle (p .dots) (cellAt (m .width) row col) in
-        same-by t p tried (attempt t p v) (draws (toggleAsked m row col)) (attempt-counted t p v)
+        same-by t p tried (attempt t p v) (draws (toggleAsked m gray row col)) (attempt-counted t p v)
     call-same (swapAt row col row′ col′) =
         let v : Move = swap (p .dots) (cellAt (m .width) row col) (cellAt (m .width) row′ col′) in
         same-by t p tried (attempt t p v)
-        (draws (swapAsked m (p .dots) row col row′ col′)) (attempt-counted t p v)
+        (draws (swapAsked m gray (p .dots) row col row′ col′)) (attempt-counted t p v)
     call-same toggleScan = same-by t p swept (scan t (toggles t) p) (draws noCell) (scan-counted t p (toggles t))
     call-same swapScan =
         let rule : Rule = swaps t (m .reach) in
@@ -132,24 +132,24 @@ module _ (m : Measures) (psf gray : List ℕ) where
       scan-keeps rule lawful = sweep-keeps t rule lawful p halftone P keep h (cells t) (le-refl (cells t))
 
       -- a call that is not refused
-      does-keeps : (c : Call) → firstOf (asks (asked m (p .dots) c)) ≡ 0 → P (does m psf gray p c .left)
+      does-keeps : (c : Call) → firstOf (asks (asked m gray (p .dots) c)) ≡ 0 → P (does m psf gray p c .left)
       unfolding converge toggleRefusal swapRefusal
       does-keeps (toggleAt row col) e =
           attempt-keeps _
           (toggle-ready m psf gray (p .dots) (filteredErrors t (p .dots)) (statsOf t p) row col
-          (draws (toggleAsked m row col) ∙ e) .1)
+          (draws (toggleAsked m gray row col) ∙ e) .1)
       does-keeps (swapAt row col row′ col′) e =
           attempt-keeps _
           (swap-ready m psf gray (p .dots) (filteredErrors t (p .dots)) (statsOf t p) row col row′ col′
-          (draws (swapAsked m (p .dots) row col row′ col′) ∙ e) .1)
+          (draws (swapAsked m gray (p .dots) row col row′ col′) ∙ e) .1)
       does-keeps toggleScan e = scan-keeps (toggles t) (toggles-lawful t refl)
       does-keeps swapScan e = scan-keeps (swaps t (m .reach)) (swaps-lawful t (m .reach))
       does-keeps convergence e = converge-keeps t (m .reach) (f .plate .halftone .wide .0) refl P keep p 0 halftone h
 
       call-keeps : (c : Call) → P (referenceCall m psf gray p c .left)
-      call-keeps c = go (firstOf (asks (asked m (p .dots) c))) refl
+      call-keeps c = go (firstOf (asks (asked m gray (p .dots) c))) refl
         where
-          go : (n : ℕ) → firstOf (asks (asked m (p .dots) c)) ≡ n
+          go : (n : ℕ) → firstOf (asks (asked m gray (p .dots) c)) ≡ n
               → P (unless n p (does m psf gray p c) .left)
           go zero e = does-keeps c e
           go (suc n) e = h
@@ -205,11 +205,12 @@ module _ (m : Measures) (psf gray : List ℕ) where
 
   call-expected : (p : Reference) (c : Call) → Expected (referenceCall m psf gray p c .reply)
   call-expected p (toggleAt row col) =
-      drawn-expected p (does m psf gray p (toggleAt row col)) tt (asks (toggleAsked m row col)) (here refl, tt)
+      drawn-expected p (does m psf gray p (toggleAt row col)) tt (asks (toggleAsked m gray row col))
+      (here refl, (there (there (here refl)), tt))
   call-expected p (swapAt row col row′ col′) =
       drawn-expected p (does m psf gray p (swapAt row col row′ col′)) tt
-      (asks (swapAsked m (p .dots) row col row′ col′))
-      (here refl, (there (here refl), (there (there (here refl)), tt)))
+      (asks (swapAsked m gray (p .dots) row col row′ col′))
+      (here refl, (there (here refl), (there (there (here refl)), (there (there (there (here refl))), tt))))
   call-expected p toggleScan = tt
   call-expected p swapScan = tt
   call-expected p convergence = tt

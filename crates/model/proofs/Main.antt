@@ -30,7 +30,10 @@ use Rattle.model.proofs.Longest.{sheet-most, writing-is-long, filed-mos
 use Rattle.model.proofs.Interface.{counted, not-counted, measures-draw, ledger-draws}
 use Rattle.model.proofs.Interface.{start-over, call-over, over-other-count, call-over-other-count}
 use Rattle.model.proofs.Interface.{toggle-is-told, swap-is-told, measures-read, stored-read, run-over}
-use Rattle.model.proofs.Examples.{examples, one-sided}
+use Rattle.model.proofs.Examples.{examples, one-sided, of-unlocked}
+use Rattle.model.proofs.Screen.{ordered-locks}
+use Rattle.model.proofs.Lock.{lock-exactly, holds-blank, holds-solid}
+use Rattle.model.proofs.Refusal.{draws-16}
 
 pub promises : Promises
 unfolding change toggleSum swapSum
@@ -48,6 +51,13 @@ promises =
         table-is-bounded = taken-filtered w h r psf gray dots;
         squared-error-is-bounded = taken-squared w h r psf gray dots;
       };
+      lock-promises = λ t dots. record {
+        locked-exactly = λ n. lock-exactly t n;
+        paper-is-blank = holds-blank t dots;
+        lettering-is-solid = holds-solid t dots;
+        undrawn-16-holds = draws-16 t dots .0;
+        drawn-16-contradicts = draws-16 t dots .1;
+      };
       change-promises = λ t dots long. record {
         toggle-changes-by = λ bits. toggle-change t dots bits long;
         swap-changes-by = λ bits. swap-change t dots bits long;
@@ -59,7 +69,10 @@ promises =
         toggle-tries = toggle-tries m psf gray dots table s;
         swap-tries = swap-tries m psf gray dots table s;
       };
-      start-promises = λ m psf gray. record { start-begins = start-begins m psf gray };
+      start-promises = λ m psf gray. record {
+        start-begins = start-begins m psf gray;
+        ordered-start-respects-locks = ordered-locks m psf gray;
+      };
       scan-promises = record {
         partners-are-ordered = offsets-ordered;
         convergence-keeps-to-rule = converge-rule;
@@ -136,4 +149,5 @@ promises =
       };
       examples-hold = examples;
       half-peak-is-one-sided = one-sided;
+      rest-is-of-unlocked-cells = of-unlocked;
     }

@@ -26,8 +26,8 @@ use Rattle.model.specs.Partners.{partnerRow, partnerColumn}
 use Rattle.model.specs.Refusal.{gap}
 use Rattle.model.specs.Ledger.{unequal}
 use Rattle.model.specs.Basic.{someBelow}
-use Rattle.model.proofs.Refusal.{neither}
-use Rattle.model.proofs.State.{below, equal, all-below}
+use Rattle.model.proofs.Basic.{neither, all-below}
+use Rattle.model.proofs.State.{below, equal}
 
 -- ---- what document 01 says of the list of offsets, as tests, each of a fault
 abbrev differ : Offset → Offset → Bool

@@ -20,7 +20,8 @@ use Rattle.model.specs.Netpbm.{InSize, cellsIn, packedSize, packed, nega
 use Rattle.model.specs.PictureHeader.{sizeOf}
 use Rattle.model.specs.PictureCalls.{isMaximum, wrongLayout, badLayout, pictureRefusals, pbmRefusals, pgmRefusals}
 use Rattle.model.specs.PictureCalls.{writePbmRefusals, writePgmRefusals, countRowsRefusals}
-use Rattle.model.proofs.Refusal.{none, drawn-none, neither, _nor_, within, same, alike-not, size-inside}
+use Rattle.model.proofs.Basic.{neither}
+use Rattle.model.proofs.Refusal.{none, drawn-none, _nor_, within, same, alike-not, size-inside}
 use Rattle.model.proofs.Refusal.{none-above}
 use Rattle.model.proofs.Raster.{packed-length, negated-length}
 use Rattle.model.proofs.Text.{and-true}

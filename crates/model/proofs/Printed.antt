@@ -1,14 +1,14 @@
 -- The promise of the program (specs/ProgramPromises.antt) holds (`program-promises`): texts of refusals are apart from
--- each other and from every sheet; a sheet that was read draws 6 or nothing, and comes to rest; so what is printed is
--- what is due. Later calls accept what came to rest (`printed-sound`).
+-- each other and from every sheet; a sheet that was read draws 6, 16 or nothing, and comes to rest; so what is
+-- printed is what is due. Later calls accept what came to rest (`printed-sound`).
 use mathlib.Core.Path.{_≡_, refl, _∙_, ap, ap₂, sym, subst}
-use mathlib.Core.Bool.{Bool, true, false, _&&_}
+use mathlib.Core.Bool.{Bool, true, false, true≢false, _&&_}
 use mathlib.Core.List.{List, [], _∷_, _++_}
 use mathlib.Core.Logic.{_⊎_, inl, inr}
 use Prim.Native.Nat.{ℕ, _≤_, _<_}
 use native.Mathlib.Decide.{ℕ-discrete}
 use native.Mathlib.Omega.{arith}
-use borrow.Author.Tests.{ltb-true, ltb-false, lt-ltb, le-ltb, eqb-true, eq-eqb, ne-eqb}
+use borrow.Author.Tests.{ltb-true, ltb-false, lt-ltb, le-ltb, eqb-true, eqb-false, eq-eqb, ne-eqb}
 use lib.Dec.{ltb, eqb, lit≤, lit<}
 use lib.IntN.{ℤ, pos, negsuc}
 use lib.Signed.{_≤ℤ_}
@@ -17,7 +17,8 @@ use Rattle.model.specs.declared.Measures.{Measures}
 use Rattle.model.specs.Psf.{total}
 use Rattle.model.specs.Error.{squaredError, Halftone}
 use Rattle.model.specs.Refusal.{Refusal, firstOf, above, badSize, badRadius, badReach, badKind, badLength, badSum}
-use Rattle.model.specs.Refusal.{badGiven, startRefusal}
+use Rattle.model.specs.Lock.{contradiction}
+use Rattle.model.specs.Refusal.{badGiven, badGivenLocks, startRefusal}
 use Rattle.model.specs.Ledger.{dotTotal, freshStats}
 use Rattle.model.specs.Reference.{Reference, statsOf}
 use Rattle.model.specs.Scan.{converge}
@@ -28,11 +29,12 @@ use Rattle.model.specs.Sheet.{Sheet, cellsOf, names, sheetText, Valid}
 use Rattle.model.specs.Format.{Read, readSheet}
 use Rattle.model.specs.SheetCalls.{writtenSheet}
 use Rattle.model.specs.Program.{refusedText, whole, statsText, processedText, handedDots, sheetTarget, output}
-use Rattle.model.specs.ProgramPromises.{IsSheet, StartRefuses, wrongSum}
+use Rattle.model.specs.ProgramPromises.{IsSheet, StartRefuses, wrongSum, contradicted}
 use Rattle.model.specs.ProgramPromises.{ProgramRefuses, tooLong, unread, unstarted}
 use Rattle.model.specs.ProgramPromises.{firstDots, convergedFrom}
 use Rattle.model.specs.ProgramPromises.{Printed, PrintsSheet, Unrefused, ProgramPromises}
 use Rattle.model.proofs.Error.{squared-nonneg}
+use Rattle.model.proofs.Lock.{holds-none, contradiction-if}
 use Rattle.model.proofs.Refusal.{first-passes, _nor_, within, alike-not, above-none}
 use Rattle.model.proofs.Start.{start-later}
 use Rattle.model.proofs.Later.{fits-later}
@@ -77,11 +79,15 @@ module _ (s : Sheet) (v : Valid s) where
       go true t = rw t (rw t at (v .shaped .dots-length), above-none 1 (s .dots) (v .dots-most))
       go false t = rw t (length-replicate (cellsOf m) 0, refl)
 
-  -- the start can draw 6 only
+  -- the start can draw 6 and 16 only
   abbrev drawn : ℕ
   drawn = startRefusal m (s .psf) (s .gray) (handedDots s) (length table)
 
-  start-draws : drawn ≡ firstOf (badSum (s .psf) ∷ [])
+  -- 16 of what the start is handed
+  abbrev lock : Refusal
+  lock = badGivenLocks (m .start) (sheetTarget s) (handedDots s)
+
+  start-draws : drawn ≡ firstOf (badSum (s .psf) ∷ lock ∷ [])
   unfolding startRefusal
   start-draws =
       let (long, given) = dots-handed in
@@ -95,7 +101,7 @@ module _ (s : Sheet) (v : Valid s) where
       ∷ badKind (m .start)
       ∷ badLength (m .radius) (s .psf) (cellsOf m) (length (s .gray) ∷ length (handedDots s) ∷ length table ∷ [])
       ∷ [] in
-      first-passes [] rest (sum ++ dot) (
+      first-passes [] rest (sum ++ (dot ++ (lock ∷ []))) (
         within 256 (m .width) (r .wide) nor within 256 (m .height) (r .high),
         (
           le-ltb 3 (m .radius) (r .near),
@@ -115,7 +121,7 @@ module _ (s : Sheet) (v : Valid s) where
           ),
         ),
       )
-      ∙ first-passes sum dot [] (given, tt)
+      ∙ first-passes sum dot (lock ∷ []) (given, tt)
 
   -- so it refuses what is named, or nothing
   start-judged : ((n : ℕ) × StartRefuses s n) ⊎ (drawn ≡ 0)
@@ -125,7 +131,18 @@ module _ (s : Sheet) (v : Valid s) where
           → ((n : ℕ) × StartRefuses s n) ⊎ (drawn ≡ 0)
       go true t b u = inl (6, wrongSum (inl (eqb-true _ _ t)))
       go false t true u = inl (6, wrongSum (inr (ltb-true _ _ u)))
-      go false t false u = inr (start-draws ∙ rw (t, u))
+      go false t false u = locks (eqb (m .start) 2) refl (contradiction (sheetTarget s) (s .dots)) refl
+        where
+          locks : (a : Bool) → eqb (m .start) 2 ≡ a → (b : Bool) → contradiction (sheetTarget s) (s .dots) ≡ b
+              → ((n : ℕ) × StartRefuses s n) ⊎ (drawn ≡ 0)
+          locks true e true f =
+              inl (
+                16,
+                contradicted (omega (arith, eqb-false (total (s .psf)) 0 t)) (ltb-false _ _ u)
+                    (eqb-true (m .start) 2 e) (λ h. true≢false (sym f ∙ holds-none (sheetTarget s) (s .dots) h)),
+              )
+          locks true e false f = inr (start-draws ∙ rw (t, u, e, f))
+          locks false e b f = inr (start-draws ∙ rw (t, u, e))
 
   -- what is printed of the sheet: a refusal of the start
   abbrev text : List ℕ
@@ -136,6 +153,14 @@ module _ (s : Sheet) (v : Valid s) where
   refused-text (wrongSum (inl e)) = rw (start-draws, eq-eqb (total (s .psf)) 0 e)
   refused-text (wrongSum (inr h)) =
       rw (start-draws, ne-eqb (total (s .psf)) 0 (λ e. omega (arith, h, e)), lt-ltb 1024 (total (s .psf)) h)
+  refused-text (contradicted low high two broken) =
+      rw (
+        start-draws,
+        ne-eqb (total (s .psf)) 0 (λ e. omega (arith, low, e)),
+        le-ltb 1024 (total (s .psf)) high,
+        eq-eqb (m .start) 2 two,
+        contradiction-if (sheetTarget s) (s .dots) broken,
+      )
 
   -- or, where it draws none, what comes to rest, which is not refused
   module _ (taken : drawn ≡ 0) where
@@ -212,6 +237,7 @@ module _ (s : Sheet) (v : Valid s) where
         summed : {n : ℕ} → StartRefuses (writtenSheet m (s .psf) (s .gray) (convergedFrom s .after .dots)) n → ⊥
         summed (wrongSum (inl e)) = omega (arith, e, first-sound .plate .halftone .psf-fits .sum-low)
         summed (wrongSum (inr h)) = omega (arith, h, first-sound .plate .halftone .psf-fits .sum-high)
+        summed (contradicted low high two broken) = broken (after-sound .locks)
 
     printed : cellsOf m ≤ 4096 → {input : List ℕ} → output input ≡ text → Printed input s
     unfolding converge statsOf

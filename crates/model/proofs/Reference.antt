@@ -1,7 +1,7 @@
 -- Laws of the reference's changes: which are legal, and what fits again after one.
 --   made-long, made-bits          the copy on which a change is made: as many dots, each at most as high
 --   halftone-made, fits-halftone  a plate that fits fits after it, and its dots are dots for the target
---   toggle-legal, swap-legal      toggles, and swaps of unlike dots, are legal
+--   toggle-legal, swap-legal      of unlocked cells, toggles, and swaps of unlike dots, are legal
 --   accept-fits                   where a legal change lowers E and is accepted, the state fits again
 use mathlib.Core.Path.{_≡_, refl, sym, _∙_, ap, subst}
 use mathlib.Core.List.{List, [], _∷_}
@@ -20,6 +20,7 @@ use Rattle.model.specs.declared.Stats.{Stats}
 use Rattle.model.specs.Basic.{pick, AtMost, All}
 use Rattle.model.specs.Psf.{total}
 use Rattle.model.specs.Error.{Target, cells, filteredErrors, squaredError, mostSquared, Halftone}
+use Rattle.model.specs.Lock.{Free}
 use Rattle.model.specs.Refusal.{HalftoneFits}
 use Rattle.model.specs.Ledger.{onCount, offCount, netOf, dotTotal, raised, changes, mostCount}
 use Rattle.model.specs.State.{StateFits}
@@ -80,13 +81,14 @@ fits-halftone f = record { long = f .dots-length; bits = f .bits }
 
 module _ (t : Target) (dots : List ℕ) (f : Halftone t dots) where
   -- where a dot byte is 0 or 1
-  pub toggle-legal : t .top ≡ 1 → (m : ℕ) → m < cells t → Legal t dots (toggle dots m)
+  pub toggle-legal : t .top ≡ 1 → (m : ℕ) → m < cells t → Free t m → Legal t dots (toggle dots m)
   unfolding toggle made
-  toggle-legal one m h =
+  toggle-legal one m h free =
       let is = sym (toggle-sets dots bits m) in
       record {
         placed = (h, tt);
         apart = (tt, tt);
+        free = (free, tt);
         another = subst (All (λ x. getD dots (x .cell) 0 ≡ x .byte → ⊥)) is (λ e. absurd (omega arith), tt);
         bits = subst (All (λ x. x .byte ≤ t .top)) is (omega (arith, one), tt);
         balance =
@@ -106,16 +108,17 @@ module _ (t : Target) (dots : List ℕ) (f : Halftone t dots) where
       go (suc zero) k e = show≡ (pos after ∷ pos (total dots) ∷ []) (search reify depth 40) (omega (arith, e))
       go (suc (suc x)) k e = absurd (two x k)
 
-  pub swap-legal : (m n : ℕ) → m < cells t → n < cells t → (getD dots m 0 ≡ getD dots n 0 → ⊥)
+  pub swap-legal : (m n : ℕ) → m < cells t → n < cells t → Free t m → Free t n → (getD dots m 0 ≡ getD dots n 0 → ⊥)
       → Legal t dots (swap dots m n)
   unfolding swap made
-  swap-legal m n h k unlike =
+  swap-legal m n h k free free′ unlike =
       let x : ℕ = getD dots m 0 in
       let y : ℕ = getD dots n 0 in
       let apart : m ≡ n → ⊥ = λ e. unlike (ap (λ k. getD dots k 0) e) in
       record {
         placed = (h, (k, tt));
         apart = ((apart, tt), (tt, tt));
+        free = (free, (free′, tt));
         another = (unlike, (λ e. unlike (sym e), tt));
         bits = (f .bits .each n, (f .bits .each m, tt));
         balance =

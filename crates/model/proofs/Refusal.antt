@@ -3,8 +3,9 @@
 --   first-passes                         what is not drawn is passed over, wherever it stands
 --   by-first, by-second                  a list judged in two parts
 --   autocorrelation-fits, halftone-fits  what the autocorrelation, and what table and E were handed
---   plate-fits, plate-none               1 to 7 are drawn exactly where the plate does not fit
---   start-given, start-plate             what a start that is not refused was handed
+--   plate-fits, plate-none               1 to 7 and 16 are drawn exactly where the plate or its locks do not fit
+--   draws-16                             16 by itself
+--   start-given, start-plate, start-hold what a start that is not refused was handed, and that its dots hold the locks
 use mathlib.Core.Bool.{Bool, true, false, true≢false, not, _||_, _&&_}
 use mathlib.Core.List.{List, [], _∷_, _++_}
 use mathlib.Core.Path.{_≡_, refl, sym, _∙_, ap}
@@ -14,17 +15,19 @@ use borrow.Author.Tests.{ltb-false, eqb-true, eqb-false, not-false, eq-eqb, ne-e
 use lib.Dec.{T, ltb, eqb}
 use lib.ListN.{length, getD}
 use Rattle.model.specs.declared.Measures.{Measures}
-use Rattle.model.specs.Basic.{AtMost}
+use Rattle.model.specs.Basic.{Exactly, AtMost}
 use Rattle.model.specs.Psf.{total}
 use Rattle.model.specs.Screen.{startDots}
 use Rattle.model.specs.Refusal.{Refusal, _when_, firstOf, outside, differs, above}
-use Rattle.model.specs.Refusal.{badDot, badGiven, handed}
+use Rattle.model.specs.Refusal.{badDot, badGiven, badLocks, badGivenLocks, handed}
 use Rattle.model.specs.Refusal.{autocorrelationRefusals, halftoneRefusals, startRefusals, inputRefusals}
-use Rattle.model.specs.Error.{targetOf}
+use Rattle.model.specs.Error.{Target, targetOf, targetFor}
+use Rattle.model.specs.Lock.{contradiction, LocksHold}
 use Rattle.model.specs.Refusal.{autocorrelationRefusal, halftoneRefusal, startRefusal, PsfFits, HalftoneFits}
 use Rattle.model.specs.Refusal.{PlateFits}
-use Rattle.model.proofs.Basic.{at-most-tail}
-use Rattle.model.proofs.Screen.{start-long, start-bits}
+use Rattle.model.proofs.Basic.{neither, at-most-tail}
+use Rattle.model.proofs.Lock.{holds-none, none-holds}
+use Rattle.model.proofs.Screen.{start-long, start-bits, start-locks}
 
 -- ---- the first of a list
 -- every number of the list is above 0
@@ -53,6 +56,10 @@ pub numbered-append : (l k : List Refusal) → T (numbered l) → T (numbered k)
 numbered-append [] k t u = u
 numbered-append (zero when b ∷ l) k t u = absurd t
 numbered-append (suc n when b ∷ l) k t u = numbered-append l k t u
+
+pub append-none : (l k : List Refusal) → None l → None k → None (l ++ k)
+append-none [] k h g = g
+append-none (n when b ∷ l) k h g = (h .0, append-none l k (h .1) g)
 
 pub none-append : (l k : List Refusal) → None (l ++ k) → None l × None k
 none-append [] k h = (tt, h)
@@ -89,10 +96,6 @@ module _ (l k : List Refusal) (t : T (numbered l)) {x : ℕ} (e : x ≡ firstOf 
   by-second z f = f ∙ first-none l k t (sym e ∙ z)
 
 -- ---- the conditions
-pub neither : (a b : Bool) → a || b ≡ false → (a ≡ false) × (b ≡ false)
-neither true b h = absurd (true≢false h)
-neither false b h = (refl, h)
-
 infixr 30 _nor_
 pub _nor_ : {a b : Bool} → a ≡ false → b ≡ false → a || b ≡ false
 e nor f = rw (e, f) refl
@@ -233,21 +236,51 @@ handed-fits m psf gray dots table (size, (radius, (reach, (kind, (exact, (sum, _
       halftone = halftone-by (m .width) (m .height) (m .radius) psf gray dots table size radius exact sum long bits;
     }
 
--- and not 7
+-- nor 7 and 16
 pub plate-fits : (m : Measures) (psf gray dots : List ℕ) (table : ℕ) → None (inputRefusals m psf gray dots table)
-    → PlateFits m psf gray dots table
+    → PlateFits m psf gray dots table × LocksHold (targetFor m psf gray) dots
 plate-fits m psf gray dots table drawn =
     let lengths : List ℕ = length gray ∷ length dots ∷ table ∷ [] in
-    let (input, (dot, _)) = none-append (handed m psf lengths) (badDot dots ∷ []) drawn in
-    handed-fits m psf gray dots table input (λ e. e) (record { each = none-above 1 dots dot })
+    let (input, (dot, (locks, _)))
+    = none-append (handed m psf lengths) (badDot dots ∷ badLocks (targetFor m psf gray) dots ∷ []) drawn in (
+      handed-fits m psf gray dots table input (λ e. e) (record { each = none-above 1 dots dot }),
+      none-holds (targetFor m psf gray) dots locks,
+    )
 
--- and back
-pub plate-none : (m : Measures) (psf gray dots : List ℕ) (table : ℕ) → PlateFits m psf gray dots table
-    → None (inputRefusals m psf gray dots table)
-plate-none m psf gray dots table f =
+-- and back: 1 to 7 alone, and with 16
+abbrev pub untilDots : Measures → (psf gray dots : List ℕ) (table : ℕ) → List Refusal
+untilDots m psf gray dots table = handed m psf (length gray ∷ length dots ∷ table ∷ []) ++ (badDot dots ∷ [])
+
+pub plate-draws-none : (m : Measures) (psf gray dots : List ℕ) (table : ℕ) → PlateFits m psf gray dots table
+    → None (untilDots m psf gray dots table)
+plate-draws-none m psf gray dots table f =
     let (size, (radius, rest))
     = halftone-none (m .width) (m .height) (m .radius) psf gray dots table (f .halftone) in
     (size, (radius, (le-ltb 6 (m .reach) (f .reach-near), (le-ltb 2 (m .start) (f .kind-known), rest))))
+
+pub plate-none : (m : Measures) (psf gray dots : List ℕ) (table : ℕ) → PlateFits m psf gray dots table
+    → LocksHold (targetFor m psf gray) dots → None (inputRefusals m psf gray dots table)
+plate-none m psf gray dots table f g =
+    append-none (untilDots m psf gray dots table) (badLocks (targetFor m psf gray) dots ∷ [])
+    (plate-draws-none m psf gray dots table f) (holds-none (targetFor m psf gray) dots g, tt)
+
+-- 16 by itself
+pub draws-16 : (t : Target) (dots : List ℕ)
+    → (let n = firstOf (badLocks t dots ∷ []) in
+    Exactly (n ≡ 0) (LocksHold t dots) × Exactly (n ≡ 16) (LocksHold t dots → ⊥))
+draws-16 t dots = go (contradiction t dots) (none-holds t dots) (holds-none t dots)
+  where
+    go : (b : Bool) → (b ≡ false → LocksHold t dots) → (LocksHold t dots → b ≡ false)
+        → (let n = firstOf (16 when b ∷ []) in
+        Exactly (n ≡ 0) (LocksHold t dots) × Exactly (n ≡ 16) (LocksHold t dots → ⊥))
+    go true to from = (
+      (λ e. absurd (omega (arith, e)), λ f. absurd (true≢false (from f))),
+      (λ e f. true≢false (from f), λ no. refl),
+    )
+    go false to from = (
+      (λ e. to refl, λ f. refl),
+      (λ e. absurd (omega (arith, e)), λ no. absurd (no (to refl))),
+    )
 
 -- a start, handed a table of that length: those given are as many as its own dots, which fit
 module _ (m : Measures) (psf gray dots : List ℕ) (table : ℕ) (taken : startRefusal m psf gray dots table ≡ 0) where
@@ -261,13 +294,24 @@ module _ (m : Measures) (psf gray dots : List ℕ) (table : ℕ) (taken : startR
       let side : ℕ = 2 * m .radius + 1 in
       alike (side * side) (m .height * m .width) (length psf) (length gray ∷ length dots ∷ table ∷ []) exact .1 .1 .0
 
+  -- what is judged of every kind, and what of given dots alone
+  abbrev given : List Refusal
+  given = badGiven (m .start) dots ∷ badGivenLocks (m .start) (targetFor m psf gray) dots ∷ []
+
+  parts : None (handed m psf (length gray ∷ length dots ∷ table ∷ [])) × None given
+  parts = none-append (handed m psf (length gray ∷ length dots ∷ table ∷ [])) given drawn
+
+  of-given : {b : Bool} → 2 ≤ m .start → eqb (m .start) 2 && b ≡ false → b ≡ false
+  of-given k h =
+      let (_, (_, (_, (kind, _)))) = parts .0 in
+      rw (eq-eqb (m .start) 2 (omega (arith, k, ltb-false 2 (m .start) kind))) at h
+
   pub start-plate : PlateFits m psf gray (startDots m gray dots) table
   start-plate =
-      let lengths : List ℕ = length gray ∷ length dots ∷ table ∷ [] in
-      let (input, (dot, _)) = none-append (handed m psf lengths) (badGiven (m .start) dots ∷ []) drawn in
-      let (_, (_, (_, (kind, _)))) = input in
+      let input = parts .0 in
       handed-fits m psf gray (startDots m gray dots) table input (start-long m gray dots)
-      (start-bits m gray dots (λ k. given (m .start) (ltb-false 2 (m .start) kind) k dot))
-    where
-      given : (k : ℕ) → k ≤ 2 → 2 ≤ k → eqb k 2 && above 1 dots ≡ false → AtMost 1 dots
-      given k a b h = record { each = none-above 1 dots (rw (eq-eqb k 2 (omega arith)) at h) }
+      (start-bits m gray dots (λ k. record { each = none-above 1 dots (of-given k (parts .1 .0)) }))
+
+  pub start-hold : LocksHold (targetFor m psf gray) (startDots m gray dots)
+  start-hold =
+      start-locks m psf gray dots (λ k. none-holds (targetFor m psf gray) dots (of-given k (parts .1 .1 .0)))

@@ -1,18 +1,19 @@
 -- Laws of scans, for every target and every rule.
+--   Suited, suits-so, so-suits    what it is that a partner suits
 --   toggles-lawful, swaps-lawful  the rules of the two scans attempt legal changes alone
 --   sweep-keeps                   what each accepted change keeps, a scan by such a rule keeps
 --   sweep-counts, sweep-lowers    it counts its accepted changes, each of which lowers E
 --   sweep-still                   one that accepts nothing leaves the reference as it was; nothing attempted lowers E
 --   sweep-calm                    and where nothing attempted lowers E, it accepts nothing
 --   sound-kept, sweep-later       later calls accept what a scan leaves
-use mathlib.Core.Bool.{true, not, and-eq-true-iff, Bool, false}
+use mathlib.Core.Bool.{true, not, _&&_, and-eq-true-iff, Bool, false}
 use mathlib.Core.List.{List, [], _∷_}
 use mathlib.Core.Path.{_≡_, refl, _∙_, subst, ap, sym}
 use Prim.Native.Nat.{ℕ, zero, suc, _+_, _≤_, _<_}
 use native.Mathlib.Decide.{ℕ-discrete}
 use native.Mathlib.Nat.{not-suc-le-zero}
 use native.Mathlib.Omega.{arith}
-use borrow.Author.Tests.{eqb-false, not-true}
+use borrow.Author.Tests.{eqb-false, ne-eqb, not-true}
 use lib.Dec.{eqb}
 use lib.IntN.{ℤ, pos, negsuc, natAbs, _+ℤ_, _-ℤ_}
 use lib.Signed.{_≤ℤ_, _<ℤ_, clashℤ}
@@ -22,9 +23,10 @@ use Rattle.algebra.proofs.Order.{natAbs-parts, read≤, read<, show≤}
 use Rattle.model.specs.declared.Measures.{Measures}
 use Rattle.model.specs.Basic.{All, pick}
 use Rattle.model.specs.Error.{Target, targetFor, cells, squaredError, Halftone}
+use Rattle.model.specs.Lock.{locked, Free}
 use Rattle.model.specs.Reference.{Reference, accept, statsOf}
 use Rattle.model.specs.Partners.{Offset, offsets, lands, partner}
-use Rattle.model.specs.Scan.{Rule, toggles, suits, swapsBy, swaps, Sweep, tryEach, sweepTo, taking}
+use Rattle.model.specs.Scan.{Rule, toggles, exchangeable, suits, swapsBy, swaps, Sweep, tryEach, sweepTo, taking}
 use Rattle.model.proofs.Basic.{pick-cases}
 use Rattle.model.specs.Ledger.{changes}
 use Rattle.model.specs.Change.{Move, made, swap, Legal, change, lowers, lookFrom}
@@ -44,6 +46,34 @@ all-map : {A : Type 0} {P Q : A → Type 0} → ((x : A) → P x → Q x) → (l
 all-map h [] a = tt
 all-map h (x ∷ l) a = (h x (a .0), all-map h l (a .1))
 
+-- ---- a partner that suits
+-- it lands on the plate, neither cell is locked, and their dots are unlike
+pub record Suited (t : Target) (dots : List ℕ) (m : ℕ) (o : Offset) : Type 0 where
+  pub lands-there : lands (t .width) (t .height) m o ≡ true
+  pub free : Free t m
+  pub free-there : Free t (partner (t .width) m o)
+  pub unlike : getD dots m 0 ≡ getD dots (partner (t .width) m o) 0 → ⊥
+
+module _ (t : Target) (dots : List ℕ) (m : ℕ) (o : Offset) where
+  abbrev n : ℕ
+  n = partner (t .width) m o
+
+  pub suits-so : suits t dots m o ≡ true → Suited t dots m o
+  suits-so e =
+      let (on, rest) = and-eq-true-iff (lands (t .width) (t .height) m o) (exchangeable t dots m n) .0 e in
+      let unlike = not (eqb (getD dots m 0) (getD dots n 0)) in
+      let (here, rest) = and-eq-true-iff (not (locked (t .gray) m)) (not (locked (t .gray) n) && unlike) .0 rest in
+      let (there, other) = and-eq-true-iff (not (locked (t .gray) n)) unlike .0 rest in
+      record {
+        lands-there = on;
+        free = not-true _ here;
+        free-there = not-true _ there;
+        unlike = eqb-false _ _ (not-true _ other);
+      }
+
+  pub so-suits : Suited t dots m o → suits t dots m o ≡ true
+  so-suits s = rw (s .lands-there, s .free, s .free-there, ne-eqb _ _ (s .unlike)) refl
+
 -- ---- rules that attempt legal changes
 -- whatever the rule attempts at a cell of such dots is legal
 abbrev pub Lawful : Target → Rule → Type 0
@@ -54,16 +84,16 @@ module _ (t : Target) where
   -- where a dot byte is 0 or 1
   pub toggles-lawful : t .top ≡ 1 → Lawful t (toggles t)
   unfolding toggles
-  toggles-lawful one dots f m h = (toggle-legal t dots f one m h, tt)
+  toggles-lawful one dots f m h =
+      pick-cases (All (Legal t dots)) (locked (t .gray) m) (λ e. tt) (λ e. (toggle-legal t dots f one m h e, tt))
 
-  -- a partner lands on the plate, its dot unlike
   suits-legal : (dots : List ℕ) → Halftone t dots → (m : ℕ) → m < cells t → (o : Offset)
       → suits t dots m o ≡ true
       → Legal t dots (swap dots m (partner (t .width) m o))
   suits-legal dots f m h o e =
-      let n : ℕ = partner (t .width) m o in
-      let s = and-eq-true-iff (lands (t .width) (t .height) m o) (not (eqb (getD dots m 0) (getD dots n 0))) .0 e in
-      swap-legal t dots f m n h (lands-on (t .width) (t .height) m o (s .0)) (eqb-false _ _ (not-true _ (s .1)))
+      let s = suits-so t dots m o e in
+      let on = lands-on (t .width) (t .height) m o (s .lands-there) in
+      swap-legal t dots f m (partner (t .width) m o) h on (s .free) (s .free-there) (s .unlike)
 
   swapsBy-lawful : (l : List Offset) → Lawful t (swapsBy t l)
   unfolding swapsBy

@@ -19,7 +19,7 @@ use Rattle.model.specs.Calls.{result, refused, Ends, buffers, startCall,
 use Rattle.model.specs.Ledger.{freshStats}
 use Rattle.model.proofs.Error.{filtered-long}
 use Rattle.model.proofs.Calls.{ends-refused, ends-done, was-done}
-use Rattle.model.proofs.Refusal.{start-plate}
+use Rattle.model.proofs.Refusal.{start-plate, start-hold}
 use Rattle.model.proofs.Halftone.{squared-least, squared-most}
 use Rattle.model.proofs.State.{fresh-fits, dots-counted}
 use Rattle.model.proofs.Later.{fits-later}
@@ -67,7 +67,8 @@ module _ (m : Measures) (psf gray dots : List ℕ) (table : ℕ) (bytes : AtMost
 
   -- what is left is what later calls accept
   pub start-later : LaterFits m psf gray begun (filteredErrors t begun) (freshStats t begun)
-  start-later = record { plate = start-fits; state = start-state }
+  start-later =
+      record { plate = start-fits; locks = start-hold m psf gray dots table taken; state = start-state }
 
 -- ---- what a start that is not refused answers and leaves
 module _ (m : Measures) (psf gray : List ℕ) where
@@ -86,6 +87,7 @@ module _ (m : Measures) (psf gray : List ℕ) where
             dots-counted (startDots m gray dots) (start-plate m psf gray dots table e .halftone .bits);
         counts-are-0 = (refl, refl, refl);
         table-is-fresh = refl;
+        locked-cells-are-set = start-hold m psf gray dots table e;
         is-accepted = fits-later m psf gray _ _ _ (start-later m psf gray dots table bytes e);
       }
 

@@ -1,6 +1,6 @@
 -- Laws of the state: the dot total, and where 20 and 21 are drawn.
 --   dots-counted                       the dot total is the number of dot bytes that are 1
---   below, at-least, equal, all-below  what the tests of 20 and 21 say
+--   below, at-least, equal             what the tests of 20 and 21 say
 --   state-accepted, state-known        none of their conditions holds exactly where the state fits
 --   ledger-exactly                     21 is not drawn exactly where the ledger fits dots with their table
 --   total-known                        the dot total of a ledger that 21 does not refuse
@@ -10,9 +10,9 @@ use mathlib.Core.Bool.{Bool, true, false, not}
 use mathlib.Core.Logic.{ite}
 use mathlib.Core.List.{List, [], _∷_, filter}
 use mathlib.Core.Path.{_≡_, refl, sym, _∙_, ap, subst}
-use Prim.Native.Nat.{ℕ, zero, suc, _+_, _*_, _≤_, _<_}
+use Prim.Native.Nat.{ℕ, _+_, _*_, _≤_}
 use native.Mathlib.Decide.{ℕ-discrete}
-use native.Mathlib.Nat.{mul-zero, not-suc-le-zero}
+use native.Mathlib.Nat.{mul-zero}
 use native.Mathlib.Omega.{arith}
 use borrow.Author.Tests.{le-ltb, ltb-false}
 use lib.Dec.{T, ltb, lit≤}
@@ -28,9 +28,9 @@ use Rattle.model.specs.Error.{Target, cells, filteredError, filteredErro
 use Rattle.model.specs.Ledger.{dotTotal, ledgerDots, unequal, some, faults, wrongStats, freshStats, mostCount}
 use Rattle.model.specs.State.{badTable, badStats, StateFits}
 use Rattle.model.specs.Refusal.{firstOf}
-use Rattle.model.proofs.Basic.{at-most-tail, getD-tabulate, tabulate-by}
+use Rattle.model.proofs.Basic.{at-most-tail, getD-tabulate, tabulate-by, neither, none-below, all-below}
 use Rattle.model.proofs.Error.{filtered-long}
-use Rattle.model.proofs.Refusal.{None, neither, _nor_, none, drawn-none}
+use Rattle.model.proofs.Refusal.{None, _nor_, none, drawn-none}
 
 -- ---- the dot total
 pub total≤ : (k : ℕ) (l : List ℕ) → AtMost k l → total l ≤ length l * k
@@ -73,23 +73,6 @@ pub equal : (a b : ℤ) → unequal a b ≡ false → a ≡ b
 equal a b h =
     let (low, high) = neither (ltZ a b) (ltZ b a) h in
     show≡ (a ∷ b ∷ []) (search reify depth 40) (omega (arith, ordℤ, at-least a b low, at-least b a high))
-
-none-below : (n : ℕ) (f : ℕ → Bool) → ((i : ℕ) → i < n → f i ≡ false) → someBelow n f ≡ false
-unfolding someBelow
-none-below zero f h = refl
-none-below (suc n) f h = rw (none-below n f (λ i k. h i (omega arith)), h n (omega arith)) refl
-
-pub all-below : (n : ℕ) (f : ℕ → Bool) → someBelow n f ≡ false → (i : ℕ) → i < n → f i ≡ false
-unfolding someBelow
-all-below zero f h i l = absurd (not-suc-le-zero l)
-all-below (suc n) f h i l = go (ℕ-discrete i n) (all-below n f (both .0) i)
-  where
-    both : (someBelow n f ≡ false) × (f n ≡ false)
-    both = neither (someBelow n f) (f n) h
-
-    go : Dec (i ≡ n) → (i < n → f i ≡ false) → f i ≡ false
-    go (yes e) ih = rw e (both .1)
-    go (no e) ih = ih (omega arith)
 
 -- no test of a list holds
 abbrev Clear : List Bool → Type 0

@@ -10,6 +10,7 @@ use lib.ListN.{getD, set}
 use Rattle.model.specs.Basic.{pick, All}
 use Rattle.model.specs.Psf.{peak}
 use Rattle.model.specs.Error.{Target, kernel, filteredError, cells, squaredError}
+use Rattle.model.specs.Lock.{Free}
 use Rattle.model.specs.Ledger.{Count, onCount, offCount, swapCount, netOf, dotTotal}
 use mathlib.Core.Bool.{Bool}
 use mathlib.Core.Path.{_≡_}
@@ -57,6 +58,8 @@ pub record Legal (t : Target) (dots : List ℕ) (v : Move) : Type 0 where
   -- its cells are on the plate, and different
   pub placed : Placed (cells t) (v .sets)
   pub apart : Apart (v .sets)
+  -- none of them is locked
+  pub free : All (λ x. Free t (x .cell)) (v .sets)
   -- each new byte is another than the one there, and at most the highest
   pub another : All (λ x. getD dots (x .cell) 0 ≡ x .byte → ⊥) (v .sets)
   pub bits : All (λ x. x .byte ≤ t .top) (v .sets)

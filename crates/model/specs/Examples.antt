@@ -1,5 +1,5 @@
--- The starred examples of document 01, as one table: a field for each figure. And plates that show one of its mistakes to
--- be one. `examples` and `one-sided` of proofs/Examples.antt fill both tables by computing the sums.
+-- The starred examples of document 01, as one table: a field for each figure. And plates that show what would be a
+-- mistake. `examples`, `one-sided` and `of-unlocked` of proofs/Examples.antt fill the tables by computing the sums.
 use mathlib.Core.Path.{_≡_}
 use mathlib.Core.List.{List, [], _∷_, _++_}
 use Prim.Native.Nat.{ℕ}
@@ -11,8 +11,10 @@ use Rattle.model.specs.declared.Stats.{Stats}
 use Rattle.model.specs.Psf.{autocorrelation, peak}
 use Rattle.model.specs.Error.{Target, targetOf, filteredErrors, squaredError}
 use Rattle.model.specs.Screen.{thresholdAt, startDots}
+use Rattle.model.specs.Change.{toggle, swap, change}
 use Rattle.model.specs.Reference.{Tried, accepted, declined}
-use Rattle.model.specs.Calls.{result, Outcome, Buffers, startCall, toggleCall, swapCall, convergeCall}
+use Rattle.model.specs.Calls.{result, refused, Outcome, Buffers}
+use Rattle.model.specs.Calls.{startCall, toggleCall, swapCall, convergeCall}
 use Rattle.model.specs.Lists.{Rest}
 use Rattle.model.specs.Text.{bytes}
 use Rattle.model.specs.Program.{output}
@@ -78,8 +80,13 @@ pub record Examples : Type 0 where
   -- 1 by 1, r 0, p 1, gray 255, blank: E 65025
   pub black-blank : squaredError (single 255) (0 ∷ []) ≡ pos 65025
   -- toggle -65025
-  pub black-toggle : toggleSingle 255 (negsuc 254) (pos 65025)
-      ≡ outcome (accepted (stats (pos 65025) (pos 0) 0 1 0 0) (negsuc 65024)) (1 ∷ []) (pos 0 ∷ [])
+  pub black-change : change (single 255) (0 ∷ []) (toggle (0 ∷ []) 0) ≡ negsuc 65024
+  -- now it starts with its dot and E 0 (02); a blank there contradicts, and its dot is not toggled
+  pub black-start : startCall singleMeasures (1 ∷ []) (255 ∷ []) (0 ∷ []) (pos 7 ∷ [])
+      ≡ outcome (stats (pos 0) (pos 0) 1 0 0 0) (1 ∷ []) (pos 0 ∷ [])
+  pub black-blank-is-refused : toggleSingle 255 (negsuc 254) (pos 65025) .reply ≡ refused 16 0
+  pub black-dot-is-refused : toggleCall singleMeasures (1 ∷ []) (255 ∷ []) (1 ∷ []) (pos 0 ∷ [])
+      (stats (pos 0) (pos 0) 1 0 0 0) 0 0 .reply ≡ refused 23 0
   -- same, gray 128: toggle -255, accepted, E 16384 to 16129
   pub over-half-toggle : toggleSingle 128 (negsuc 127) (pos 16384)
       ≡ outcome (accepted (stats (pos 16384) (pos 16129) 0 1 0 0) (negsuc 254)) (1 ∷ []) (pos 127 ∷ [])
@@ -163,3 +170,29 @@ pub record OneSided : Type 0 where
   pub light-rests : (reach : ℕ) → Rest light reach lightDots (filteredErrors light lightDots)
   -- yet twice the table is not at most 255 × P under the third cell, a blank
   pub above-under-blank : (pos 2 *ℤ getD (filteredErrors light lightDots) 2 (pos 0)) ≤ℤ (pos 255 *ℤ peak 1 even) → ⊥
+
+-- ---- request C-12: rest is of unlocked cells
+-- a ring of eight cells of one gray round bare paper, p nine 1s: 255 × P is 2295
+abbrev pub ring : ℕ → Target
+ring g = targetOf 3 3 1 (1 ∷ 1 ∷ 1 ∷ 1 ∷ 1 ∷ 1 ∷ 1 ∷ 1 ∷ 1 ∷ []) (g ∷ g ∷ g ∷ g ∷ 0 ∷ g ∷ g ∷ g ∷ g ∷ [])
+
+-- blank, and with a dot above the paper, which is cell 4
+abbrev pub ringBlank : List ℕ
+ringBlank = 0 ∷ 0 ∷ 0 ∷ 0 ∷ 0 ∷ 0 ∷ 0 ∷ 0 ∷ 0 ∷ []
+
+abbrev pub ringDot : List ℕ
+ringDot = 0 ∷ 1 ∷ 0 ∷ 0 ∷ 0 ∷ 0 ∷ 0 ∷ 0 ∷ 0 ∷ []
+
+pub record OfUnlocked : Type 0 where
+  -- of gray 31 and blank it is at rest at every reach
+  pub blank-ring-rests : (reach : ℕ) → Rest (ring 31) reach ringBlank (filteredErrors (ring 31) ringBlank)
+  -- yet a dot on the paper would lower E by 47175
+  pub paper-toggle-lowers : change (ring 31) ringBlank (toggle ringBlank 4) ≡ negsuc 47174
+  -- and twice the table there, which is -1240, is not at least -255 × P
+  pub paper-table : getD (filteredErrors (ring 31) ringBlank) 4 (pos 0) ≡ negsuc 1239
+  pub below-under-paper : negℤ (pos 255 *ℤ peak 1 (ring 31 .psf))
+      ≤ℤ (pos 2 *ℤ getD (filteredErrors (ring 31) ringBlank) 4 (pos 0)) → ⊥
+  -- of gray 32 and with the dot it is at rest at every reach
+  pub dot-ring-rests : (reach : ℕ) → Rest (ring 32) reach ringDot (filteredErrors (ring 32) ringDot)
+  -- yet the swap of the dot with the paper would lower E by 65280
+  pub paper-swap-lowers : change (ring 32) ringDot (swap ringDot 1 4) ≡ negsuc 65279

@@ -1,5 +1,5 @@
--- Filed sheets of two cells of gray 100 that show what the check answers. `filed-examples` of proofs/FiledExamples.antt
--- fills the table by computing.
+-- Filed sheets of two cells, of gray 100 but for one of bare paper, that show what the check answers. `filed-examples`
+-- of proofs/FiledExamples.antt fills the table by computing.
 use mathlib.Core.Bool.{Bool, true, false}
 use mathlib.Core.List.{List, [], _∷_, _++_}
 use mathlib.Core.Path.{_≡_}
@@ -7,7 +7,7 @@ use Prim.Native.Nat.{ℕ}
 use Prim.Native.String.{String}
 use lib.IntN.{pos}
 use Rattle.model.specs.declared.Resting.{Resting}
-use Rattle.model.specs.declared.Resting.the-variants.{Rests, Lowers}
+use Rattle.model.specs.declared.Resting.the-variants.{Rests, Lowers, Unstarted}
 use Rattle.model.specs.declared.Verdict.{Verdict}
 use Rattle.model.specs.Calls.{Reply, result, refused}
 use Rattle.model.specs.Text.{bytes}
@@ -18,14 +18,18 @@ abbrev pub checkBytes : List ℕ → Reply Verdict
 checkBytes b =
     checkCall b (0 ∷ 0 ∷ 0 ∷ 0 ∷ 0 ∷ 0 ∷ 0 ∷ 0 ∷ 0 ∷ []) (0 ∷ 0 ∷ []) (0 ∷ 0 ∷ []) (pos 0 ∷ pos 0 ∷ []) .reply
 
--- the sheet with these dots, and with these figures under it
-abbrev pub pairSheet : (dots : String) → List ℕ
-pairSheet dots =
-    bytes "width height radius reach start\n2 1 1 1 2\npsf\n0 0 0\n1 2 1\n0 0 0\ngray\n100 100\ndots\n" ++ bytes dots
+-- the sheet with this gray and these dots, and with these figures under it
+abbrev pub pairSheet : (gray dots : String) → List ℕ
+pairSheet gray dots =
+    bytes "width height radius reach start\n2 1 1 1 2\npsf\n0 0 0\n1 2 1\n0 0 0\ngray\n"
+    ++ (bytes gray ++ (bytes "dots\n" ++ bytes dots))
+
+abbrev pub checkOf : (gray dots figures : String) → Reply Verdict
+checkOf gray dots figures =
+    checkBytes (pairSheet gray dots ++ (bytes "before after on off swaps scans\n" ++ bytes figures))
 
 abbrev pub checkPair : (dots figures : String) → Reply Verdict
-checkPair dots figures =
-    checkBytes (pairSheet dots ++ (bytes "before after on off swaps scans\n" ++ bytes figures))
+checkPair = checkOf "100 100\n"
 
 abbrev pub says : (filed squared : ℕ) (figure ledger : Bool) → Resting → Reply Verdict
 says filed squared figure ledger rest =
@@ -49,7 +53,10 @@ pub record FiledExamples : Type 0 where
   -- a true figure with a start that was no worse, and with more dots set than there are
   pub no-fall : checkPair "1 0\n" "80150 80150 1 0 0 3\n" ≡ says 80150 80150 true false Rests
   pub too-many-on : checkPair "1 0\n" "200000 80150 2 0 0 3\n" ≡ says 80150 80150 true false Rests
+  -- a true figure of a dot on bare paper, with which no start would begin
+  pub dot-on-paper : checkOf "100 0\n" "0 1\n" "246150 246150 0 0 0 2\n"
+      ≡ says 246150 246150 true true (Unstarted 16)
   -- a leading zero, a figure of 2^63, and a sheet without its two lines
   pub zero-before-figure : checkPair "1 0\n" "200000 080150 1 0 0 3\n" ≡ refused 10 126
   pub figure-too-large : checkPair "1 0\n" "200000 9223372036854775808 1 0 0 3\n" ≡ refused 11 125
-  pub no-figures : checkBytes (pairSheet "1 0\n") ≡ refused 10 86
+  pub no-figures : checkBytes (pairSheet "100 100\n" "1 0\n") ≡ refused 10 86

@@ -13,6 +13,7 @@ use Rattle.model.specs.declared.Verdict.{Verdict}
 use Rattle.model.specs.Basic.{Exactly}
 use Rattle.model.specs.Psf.{total}
 use Rattle.model.specs.Error.{Target, filteredErrors, squaredError}
+use Rattle.model.specs.Lock.{LocksHold}
 use Rattle.model.specs.Refusal.{startRefusal}
 use Rattle.model.specs.State.{StateFits}
 use Rattle.model.specs.Calls.{result, refused, Outcome}
@@ -88,14 +89,15 @@ module _ (s : Sheet) (f : FiledFigures) where
     -- the ledger fits exactly when 21 is not drawn, each of whose conditions is a field of `StateFits`
     pub ledger-fits-exactly : Exactly (verdictOf s f .ledger ≡ true)
         (StateFits target (s .dots) (filteredErrors target (s .dots)) (filedStats (s .dots) f))
-    -- at rest exactly when no toggle and no swap within reach lowers the squared error; else one does; unless a start
-    -- would refuse the sheet
+    -- at rest exactly when no toggle and no swap within reach of unlocked cells lowers the squared error; else one
+    -- does; unless a start would refuse the sheet
     pub rests-exactly : Exactly (verdictOf s f .rest ≡ Rests) ((startNumber ≡ 0) × IsAtRest)
     pub lowers-exactly : Exactly (verdictOf s f .rest ≡ Lowers) ((startNumber ≡ 0) × (IsAtRest → ⊥))
     pub unstarted-exactly : (n : ℕ)
         → Exactly (verdictOf s f .rest ≡ Unstarted n) ((startNumber ≡ n) × (n ≡ 0 → ⊥))
-    -- as long as 1 to 7 are all that a start refuses, none does
-    pub start-takes-it : startNumber ≡ 0
+    -- which it does exactly where the filed dots contradict a locked cell, with 16
+    pub start-takes-it : Exactly (startNumber ≡ 0) (LocksHold target (s .dots))
+    pub else-16-is-drawn : Exactly (startNumber ≡ 16) (LocksHold target (s .dots) → ⊥)
 
 -- ---- all of them
 pub record FiledPromises : Type 0 where

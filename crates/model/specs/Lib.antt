@@ -4,6 +4,8 @@ pub mod Basic
 pub mod Psf
 -- Table and squared error
 pub mod Error
+-- Locked cells (02, C-12)
+pub mod Lock
 -- One change
 pub mod Ledger
 pub mod Change

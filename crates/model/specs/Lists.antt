@@ -12,6 +12,7 @@ use Rattle.model.specs.declared.ScanResult.{ScanResult}
 use Rattle.model.specs.declared.ConvergeResult.{ConvergeResult}
 use Rattle.model.specs.Psf.{peak}
 use Rattle.model.specs.Error.{Target, cells}
+use Rattle.model.specs.Lock.{Free}
 use Rattle.model.specs.Refusal.{firstOf, gap}
 use Rattle.model.specs.State.{Asked, asks, noCell, toggleAsked, swapAsked}
 use Rattle.model.specs.Reference.{Reference, Performed, Tried, accepted, declined}
@@ -95,13 +96,13 @@ begin t dots = record { dots = dots; figures = freshFigures t dots }
 abbrev pub replied : {A : Type 0} → (A → Result) → Performed A → Outcome Result Reference
 replied f done = record { reply = result (f (done .answer)); left = done .after }
 
--- what a call asks of the cells that it names, by these dots
-abbrev pub asked : Measures → List ℕ → Call → Asked
-asked m dots (toggleAt row col) = toggleAsked m row col
-asked m dots (swapAt row col row′ col′) = swapAsked m dots row col row′ col′
-asked m dots toggleScan = noCell
-asked m dots swapScan = noCell
-asked m dots convergence = noCell
+-- what a call asks of the cells that it names, by this gray and these dots
+abbrev pub asked : Measures → (gray dots : List ℕ) → Call → Asked
+asked m gray dots (toggleAt row col) = toggleAsked m gray row col
+asked m gray dots (swapAt row col row′ col′) = swapAsked m gray dots row col row′ col′
+asked m gray dots toggleScan = noCell
+asked m gray dots swapScan = noCell
+asked m gray dots convergence = noCell
 
 module _ (m : Measures) (psf gray : List ℕ) where
   -- a call that is not refused
@@ -112,32 +113,32 @@ module _ (m : Measures) (psf gray : List ℕ) where
   does p swapScan = replied swept (swapScanned m psf gray p)
   does p convergence = replied rested (atRest m psf gray p)
 
-  -- a refused call changes nothing and answers its number: 8, 9 or 22, the last by its own dots
+  -- a refused call changes nothing and answers its number: 8, 9, 23 or 22, the last two by its gray and its own dots
   abbrev pub referenceCall : Reference → Call → Outcome Result Reference
-  referenceCall p c = unless (firstOf (asks (asked m (p .dots) c))) p (does p c)
+  referenceCall p c = unless (firstOf (asks (asked m gray (p .dots) c))) p (does p c)
 
   abbrev pub referenceRun : Reference → List Call → List (Reply Result) × Reference
   referenceRun = runBy referenceCall
 
--- what may be answered in a list that a start begins: of the refusals, 8, 9 and 22
+-- what may be answered in a list that a start begins: of the refusals, 8, 9, 23 and 22
 abbrev pub expected : List ℕ
-expected = 8 ∷ 9 ∷ 22 ∷ []
+expected = 8 ∷ 9 ∷ 23 ∷ 22 ∷ []
 
 abbrev pub Expected : Reply Result → Type 0
 Expected (result r) = Unit {0}
 Expected (refused n o) = In n expected
 
--- ---- rest: no toggle, no swap within reach lowers E; the two half-peak bounds
+-- ---- rest: of the cells that are not locked, no toggle, no swap within reach lowers E; the two half-peak bounds
 pub record Rest (t : Target) (reach : ℕ) (dots : List ℕ) (table : List ℤ) : Type 0 where
-  pub no-toggle-lowers : (m : ℕ) → m < cells t → pos 0 ≤ℤ change t dots (toggle dots m)
+  pub no-toggle-lowers : (m : ℕ) → m < cells t → Free t m → pos 0 ≤ℤ change t dots (toggle dots m)
   -- within reach: two cells, their dots unlike, that differ by at most the reach in row and in column
-  pub no-swap-lowers : (m n : ℕ) → m < cells t → n < cells t
+  pub no-swap-lowers : (m n : ℕ) → m < cells t → n < cells t → Free t m → Free t n
       → gap (m / t .width) (n / t .width) ≤ reach → gap (m % t .width) (n % t .width) ≤ reach
       → (getD dots m 0 ≡ getD dots n 0 → ⊥)
       → pos 0 ≤ℤ change t dots (swap dots m n)
-  -- twice the table is at most step × P under every dot
-  pub under-dots : (m : ℕ) → m < cells t → getD dots m 0 ≡ 1
+  -- twice the table is at most step × P under every dot that is not locked
+  pub under-dots : (m : ℕ) → m < cells t → Free t m → getD dots m 0 ≡ 1
       → (pos 2 *ℤ getD table m (pos 0)) ≤ℤ (pos (t .step) *ℤ peak (t .radius) (t .psf))
-  -- and at least -step × P under every blank
-  pub under-blanks : (m : ℕ) → m < cells t → getD dots m 0 ≡ 0
+  -- and at least -step × P under every such blank
+  pub under-blanks : (m : ℕ) → m < cells t → Free t m → getD dots m 0 ≡ 0
       → negℤ (pos (t .step) *ℤ peak (t .radius) (t .psf)) ≤ℤ (pos 2 *ℤ getD table m (pos 0))

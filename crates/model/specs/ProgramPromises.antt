@@ -9,6 +9,7 @@ use lib.ListN.{length}
 use Rattle.model.specs.declared.ConvergeResult.{ConvergeResult}
 use Rattle.model.specs.Psf.{total}
 use Rattle.model.specs.Error.{filteredErrors, squaredError}
+use Rattle.model.specs.Lock.{LocksHold}
 use Rattle.model.specs.Reference.{Performed}
 use Rattle.model.specs.Scan.{converge}
 use Rattle.model.specs.Screen.{startDots}
@@ -30,6 +31,9 @@ pub record IsSheet (input : List ℕ) (s : Sheet) : Type 0 where
 pub data StartRefuses (s : Sheet) : ℕ → Type 0 where
   -- 6 psf sum 0 or above 1,024
   wrongSum : (total (s .psf) ≡ 0) ⊎ (1024 < total (s .psf)) → StartRefuses s 6
+  -- else 16 given dots that contradict a locked cell
+  contradicted : 1 ≤ total (s .psf) → total (s .psf) ≤ 1024 → s .measures .start ≡ 2
+      → (LocksHold (sheetTarget s) (s .dots) → ⊥) → StartRefuses s 16
 
 -- of the program, each with its number and its byte offset, 0 where there is no place
 pub data ProgramRefuses (input : List ℕ) : (n o : ℕ) → Type 0 where

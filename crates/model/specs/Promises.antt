@@ -16,11 +16,12 @@ use Rattle.model.specs.declared.Measures.{Measures}
 use Rattle.model.specs.declared.Stats.{Stats}
 use Rattle.model.specs.declared.ConvergeResult.{ConvergeResult}
 use Rattle.model.specs.declared.Item.the-variants.{Number, Other}
-use Rattle.model.specs.Basic.{AtMost, All}
+use Rattle.model.specs.Basic.{Exactly, AtMost, All}
 use Rattle.model.specs.Psf.{total, autocorrelation, peak}
 use Rattle.model.specs.Error.{Target, targetOf, targetFor, cellAt, cells, kernel, Halftone}
 use Rattle.model.specs.Error.{filteredError, filteredErrors, squaredError, perceivedSquares}
-use Rattle.model.specs.Refusal.{firstOf, badMeasures, halftoneRefusal, writeRefusal}
+use Rattle.model.specs.Lock.{locked, LocksHold}
+use Rattle.model.specs.Refusal.{firstOf, badMeasures, badLocks, halftoneRefusal, writeRefusal}
 use Rattle.model.specs.Ledger.{changes, ledgerDots, fallOf, dotTotal, counted}
 use Rattle.model.specs.State.{badTable, badStats, StateFits, laterRefusal}
 use Rattle.model.specs.Change.{sign, Move, Placed, made, toggle, swap, change}
@@ -43,7 +44,7 @@ use Rattle.model.specs.FiledPromises.{FiledPromises}
 use Rattle.model.specs.Interface.{measuresSize, measuresIn, statsSize, statsNumbers, statsIn, sliceRefusal}
 use Rattle.model.specs.Interface.{startOver, toggleOver, swapOver, readOver, writeOver, Told, longestSheet}
 use Rattle.model.specs.Interface.{Slices, slicesOf, heldIn, callOver, runOver}
-use Rattle.model.specs.Examples.{Examples, OneSided}
+use Rattle.model.specs.Examples.{Examples, OneSided, OfUnlocked}
 
 -- ---- Plate, spread and peak: of any psf
 module _ (r : ℕ) (psf : List ℕ) where
@@ -81,6 +82,20 @@ module _ (w h r : ℕ) (psf gray dots : List ℕ) where
     -- E is at most 4,468,483,974,758,400
     pub squared-error-is-bounded : halftoneRefusal w h r psf gray dots [] ≡ 0 → AtMost 255 gray
         → squaredError target dots ≤ℤ pos 4468483974758400
+
+-- ---- Locked cells (02, C-12): of any target and dots
+module _ (t : Target) (dots : List ℕ) where
+  pub record LockPromises : Type 0 where
+    -- a cell is locked exactly where its gray is 0 or 255
+    pub locked-exactly : (n : ℕ)
+        → Exactly (locked (t .gray) n ≡ true) ((getD (t .gray) n 0 ≡ 0) ⊎ (getD (t .gray) n 0 ≡ 255))
+    -- every locked cell holds its byte: paper is blank, lettering is solid
+    pub paper-is-blank : LocksHold t dots → (n : ℕ) → n < cells t → getD (t .gray) n 0 ≡ 0 → getD dots n 0 ≡ 0
+    pub lettering-is-solid : LocksHold t dots → (n : ℕ) → n < cells t → getD (t .gray) n 0 ≡ 255
+        → getD dots n 0 ≡ t .top
+    -- and exactly where one does not, 16 is drawn
+    pub undrawn-16-holds : Exactly (firstOf (badLocks t dots ∷ []) ≡ 0) (LocksHold t dots)
+    pub drawn-16-contradicts : Exactly (firstOf (badLocks t dots ∷ []) ≡ 16) (LocksHold t dots → ⊥)
 
 -- ---- One change: of any target and step, and dots for its cells
 module _ (t : Target) (dots : List ℕ) where
@@ -133,7 +148,7 @@ module _ (m : Measures) (psf gray dots : List ℕ) (table : List ℤ) (s : Stats
     pub answer-is-reference : answer ≡ attempt (targetFor m psf gray) (reference dots s) v .answer
     pub dots-are-reference : left .dots ≡ attempt (targetFor m psf gray) (reference dots s) v .after .dots
     pub weighed : Weighed v left answer
-    -- no later call refuses what is left: neither 1 to 7 nor 20 nor 21 is drawn
+    -- no later call refuses what is left: neither 1 to 7 nor 16, 20 or 21 is drawn
     pub is-accepted : laterRefusal m psf gray (left .dots) (left .table) (latest s (result (tried answer))) ≡ 0
 
   pub record AttemptPromises : Type 0 where
@@ -160,13 +175,18 @@ module _ (m : Measures) (psf gray : List ℕ) where
     pub counts-are-0 : (s .figures .on ≡ 0) × (s .figures .off ≡ 0) × (s .figures .swaps ≡ 0)
     -- the table is that of the dots left
     pub table-is-fresh : left .table ≡ filteredErrors (targetFor m psf gray) (left .dots)
-    -- what is left is what later calls accept: neither 1 to 7 nor 20 nor 21 is drawn
+    -- every locked cell holds its byte
+    pub locked-cells-are-set : LocksHold (targetFor m psf gray) (left .dots)
+    -- what is left is what later calls accept: neither 1 to 7 nor 16, 20 or 21 is drawn
     pub is-accepted : laterRefusal m psf gray (left .dots) (left .table) s ≡ 0
 
   pub record StartPromises : Type 0 where
     pub start-begins : (dots : List ℕ) (table : List ℤ) (s : Stats) → AtMost 255 gray
         → startCall m psf gray dots table .reply ≡ result s
         → Begun (startCall m psf gray dots table .left) s
+    -- kind 1 sets the locked cells by the thresholds alone, whatever the gray
+    pub ordered-start-respects-locks : (dots : List ℕ) → m .start ≡ 1
+        → LocksHold (targetFor m psf gray) (startDots m gray dots)
 
 -- ---- Scans and settling, of any target and step
 pub record ScanPromises : Type 0 where
@@ -190,8 +210,8 @@ module _ (m : Measures) (psf gray : List ℕ) where
     -- it is not refused
     pub answer : ConvergeResult
     pub is-answered : o .reply ≡ result (rested answer)
-    -- it ends at rest: no toggle lowers E, no swap within reach lowers E, twice the table is at most 255 × P under
-    -- every dot and at least -255 × P under every blank
+    -- it ends at rest: of the cells that are not locked, no toggle lowers E, no swap within reach lowers E, twice the
+    -- table is at most 255 × P under every dot and at least -255 × P under every blank
     pub is-at-rest : Rest (targetFor m psf gray) (m .reach) (o .left .dots) (o .left .table)
     -- its scans are at most 2 × its accepted changes + 2
     pub scans-are-few : (let after = referenceCall m psf gray before convergence .left in
@@ -218,6 +238,8 @@ module _ (m : Measures) (psf gray : List ℕ) where
       pub error-is-fresh : left .stats .error ≡ squaredError (targetFor m psf gray) (left .dots)
       -- a dot byte for each cell, 0 or 1
       pub dots-are-bits : (length (left .dots) ≡ m .height * m .width) × AtMost 1 (left .dots)
+      -- every locked cell holds its byte
+      pub locked-cells-are-untouched : LocksHold (targetFor m psf gray) (left .dots)
       -- E at the start and the dots at the start stay those of the first dots
       pub start-error-is-kept : left .stats .figures .«start_error» ≡ squaredError (targetFor m psf gray) first
       pub start-dots-are-kept : left .stats .figures .«start_dots» ≡ dotTotal first
@@ -225,7 +247,7 @@ module _ (m : Measures) (psf gray : List ℕ) where
       pub dots-are-reference : left .dots ≡ reached .dots
       pub stats-are-reference : left .stats ≡ statsOf (targetFor m psf gray) reached
       pub answers-are-reference : answers ≡ referenceAnswers
-      -- the only refusals are 8, 9 and 22
+      -- the only refusals are 8, 9, 23 and 22
       pub refusals-are-expected : All Expected answers
       -- dot total = first + on - off
       pub dots-are-balanced : pos (dotTotal (left .dots)) ≡ ledgerDots (left .stats .figures)
@@ -243,7 +265,8 @@ module _ (m : Measures) (psf gray : List ℕ) where
         → (l : List Call)
         → (let begun = startCall m psf gray dots table .left in
         Demand3 (startDots m gray dots) (record { dots = begun .dots; table = begun .table; stats = s }) l)
-    -- handed on as left, nothing draws 20 or 21, nor 1 to 7: from whatever a later call accepts, and whatever the call
+    -- handed on as left, nothing draws 20 or 21, nor 1 to 7 or 16: from whatever a later call accepts, and whatever the
+    -- call
     pub left-is-accepted : (h : Held) (c : Call) → laterRefusal m psf gray (h .dots) (h .table) (h .stats) ≡ 0
         → (let h′ = handOn h (call m psf gray h c) in laterRefusal m psf gray (h′ .dots) (h′ .table) (h′ .stats) ≡ 0)
 
@@ -364,6 +387,7 @@ module _ (measures psf gray : List ℕ) where
 pub record Promises : Type 0 where
   pub autocorrelation-promises : (r : ℕ) (psf : List ℕ) → AutocorrelationPromises r psf
   pub error-promises : (w h r : ℕ) (psf gray dots : List ℕ) → ErrorPromises w h r psf gray dots
+  pub lock-promises : (t : Target) (dots : List ℕ) → LockPromises t dots
   pub change-promises : (t : Target) (dots : List ℕ) → length dots ≡ cells t → ChangePromises t dots
   pub attempt-promises : (m : Measures) (psf gray dots : List ℕ) (table : List ℤ) (s : Stats)
       → AttemptPromises m psf gray dots table s
@@ -391,3 +415,6 @@ pub record Promises : Type 0 where
   pub examples-hold : Examples
   -- the half-peak bound is one-sided: plates at rest, at every reach, break its other side
   pub half-peak-is-one-sided : OneSided
+  -- rest is of unlocked cells: plates at rest, at every reach, where at bare paper a toggle lowers E, a swap does, and the
+  -- bound of blanks is broken
+  pub rest-is-of-unlocked-cells : OfUnlocked

@@ -10,6 +10,7 @@ use Rattle.model.specs.declared.Measures.{Measures}
 use Rattle.model.specs.Basic.{AtMost}
 use Rattle.model.specs.Psf.{total}
 use Rattle.model.specs.Error.{Target, targetFor, cells, black}
+use Rattle.model.specs.Lock.{contradiction}
 
 infix 70 _when_
 pub data Refusal : Type 0 where
@@ -78,6 +79,14 @@ badDot dots = 7 when above 1 dots
 abbrev pub badGiven : ℕ → List ℕ → Refusal
 badGiven kind dots = 7 when (eqb kind 2 && above 1 dots)
 
+-- 16 given dots that contradict a locked cell (02), straight after 7
+abbrev pub badLocks : Target → List ℕ → Refusal
+badLocks t dots = 16 when contradiction t dots
+
+-- 16 at a start: of kind 2 only, as 7
+abbrev pub badGivenLocks : ℕ → Target → List ℕ → Refusal
+badGivenLocks kind t dots = 16 when (eqb kind 2 && contradiction t dots)
+
 -- 8 a named cell off the plate
 abbrev pub badCell : (width height row col : ℕ) → Refusal
 badCell width height row col = 8 when off width height row col
@@ -119,12 +128,14 @@ handed m psf lengths =
 -- a start, handed a table of that length
 abbrev pub startRefusals : Measures → (psf gray dots : List ℕ) (table : ℕ) → List Refusal
 startRefusals m psf gray dots table =
-    handed m psf (length gray ∷ length dots ∷ table ∷ []) ++ (badGiven (m .start) dots ∷ [])
+    handed m psf (length gray ∷ length dots ∷ table ∷ [])
+    ++ (badGiven (m .start) dots ∷ badGivenLocks (m .start) (targetFor m psf gray) dots ∷ [])
 
--- the later calls because of their input, handed a table of that length: 1 to 7
+-- the later calls because of their input, handed a table of that length: 1 to 7 and 16
 abbrev pub inputRefusals : Measures → (psf gray dots : List ℕ) (table : ℕ) → List Refusal
 inputRefusals m psf gray dots table =
-    handed m psf (length gray ∷ length dots ∷ table ∷ []) ++ (badDot dots ∷ [])
+    handed m psf (length gray ∷ length dots ∷ table ∷ [])
+    ++ (badDot dots ∷ badLocks (targetFor m psf gray) dots ∷ [])
 
 -- the writer of a sheet: 1 to 5 and 7
 abbrev pub writeRefusals : Measures → (psf gray dots : List ℕ) → List Refusal
@@ -165,7 +176,7 @@ pub record HalftoneFits (t : Target) (dots : List ℕ) (table : ℕ) : Type 0 wh
   -- the highest dot byte is worth black
   pub top-black : t .step * t .top ≡ black
 
--- the same of the calls that are handed all five measures
+-- the same of the calls that are handed all five measures, locks apart
 pub record PlateFits (m : Measures) (psf gray dots : List ℕ) (table : ℕ) : Type 0 where
   pub reach-near : m .reach ≤ 6
   pub kind-known : m .start ≤ 2

@@ -10,6 +10,7 @@ use Rattle.model.specs.declared.ScanResult.{ScanResult}
 use Rattle.model.specs.declared.ConvergeResult.{ConvergeResult}
 use Rattle.model.specs.Basic.{pick}
 use Rattle.model.specs.Error.{Target, cells, squaredError}
+use Rattle.model.specs.Lock.{locked}
 use Rattle.model.specs.Partners.{Offset, offsets, lands, partner}
 use Rattle.model.specs.Reference.{Reference, Performed, accept, statsOf}
 use Rattle.model.specs.Change.{Move, toggle, swap, look}
@@ -19,14 +20,18 @@ abbrev pub Rule : Type 0
 Rule = List ℕ → ℕ → List Move
 
 module _ (t : Target) where
-  -- a toggle scan: a toggle
+  -- a toggle scan: a toggle; a locked cell is passed over
   unfoldable pub toggles : Rule
-  toggles dots m = toggle dots m ∷ []
+  toggles dots m = pick (locked (t .gray) m) [] (toggle dots m ∷ [])
 
-  -- an offset off the plate or with an equal dot is passed over
+  -- both cells are unlocked, and their dots are unlike
+  abbrev pub exchangeable : List ℕ → ℕ → ℕ → Bool
+  exchangeable dots m n =
+      not (locked (t .gray) m) && (not (locked (t .gray) n) && not (eqb (getD dots m 0) (getD dots n 0)))
+
+  -- an offset off the plate, with an equal dot, or with a locked cell at either end is passed over
   abbrev pub suits : List ℕ → ℕ → Offset → Bool
-  suits dots m o =
-      lands (t .width) (t .height) m o && not (eqb (getD dots m 0) (getD dots (partner (t .width) m o) 0))
+  suits dots m o = lands (t .width) (t .height) m o && exchangeable dots m (partner (t .width) m o)
 
   unfoldable pub swapsBy : List Offset → Rule
   swapsBy [] dots m = []

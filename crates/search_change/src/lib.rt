@@ -2,15 +2,16 @@
 // operations.
 ghost use mathlib.Core.Path.{_≡_};
 ghost use Prim.Native.Nat.{_+_, _*_, _<_, _≤_};
-ghost use lib.IntN.{pos, natAbs, _-ℤ_, _*ℤ_};
+ghost use lib.IntN.{pos, natAbs, _+ℤ_, _-ℤ_, _*ℤ_};
 ghost use lib.ListN.{length, getD};
 ghost use lib.Signed.{ltZ};
 ghost use Rattle.model.specs.Basic.{squareAt};
 ghost use Rattle.model.specs.Change.{signOf, sign, toggleSum, swapSum};
 ghost use Rattle.invariants.specs.Plate.{mostChange};
-ghost use Rattle.invariants.specs.Trials.{lowersBy};
+ghost use Rattle.invariants.specs.Trials.{lowersBy, takesBy};
 ghost use Rattle.invariants.specs.Window.{Small, HoldsSquare, mostKernel, mostWorth};
 use model::Cell;
+use slices::is_locked;
 ghost use Rattle.model.specs.Error.{mostFiltered};
 
 // a value times s of a cell whose dot byte is `dot`
@@ -22,14 +23,34 @@ pub fn signed(dot: u8, value: i32) -> i32
     if dot == 0 { value } else { -value }
 }
 
-// what a toggle of the cell m adds: 255 × (2 × s(m) × T(m) + 255 × P)
+// 2 × s(m) × T(m) + 255 × P
+fn toggle_sum(peak: i32, dots: &[u8], table: &[i32], m: usize) -> i32
+    requires { ⌜ (m < length (now dots)) × (m < length (now table)) ⌝ }
+    requires { ⌜ (natAbs peak ≤ mostKernel) × Small mostFiltered (now table) ⌝ }
+    ensures { λ r. ⌜ r ≡ pos 2 *ℤ sign (now (dots .entry)) m *ℤ getD (now (table .entry)) m (pos 0) +ℤ pos 255 *ℤ peak ⌝ }
+    ensures { λ r. ⌜ natAbs r ≤ 3 * mostFiltered ⌝ }
+{
+    2 * signed(dots[m], table[m]) + 255 * peak
+}
+
+// what a toggle of the cell m adds: 255 times that
 pub fn toggle_change(peak: i32, dots: &[u8], table: &[i32], m: usize) -> i64
     requires { ⌜ (m < length (now dots)) × (m < length (now table)) ⌝ }
     requires { ⌜ (natAbs peak ≤ mostKernel) × Small mostFiltered (now table) ⌝ }
     ensures { λ r. ⌜ r ≡ toggleSum 255 peak (sign (now (dots .entry)) m) (getD (now (table .entry)) m (pos 0)) ⌝ }
     ensures { λ r. ⌜ natAbs r ≤ mostChange ⌝ }
 {
-    255 * ((2 * signed(dots[m], table[m]) + 255 * peak) as i64)
+    255 * (toggle_sum(peak, dots, table, m) as i64)
+}
+
+// whether it lowers the squared error
+pub fn lower_toggle(peak: i32, dots: &[u8], table: &[i32], m: usize) -> bool
+    requires { ⌜ (m < length (now dots)) × (m < length (now table)) ⌝ }
+    requires { ⌜ (natAbs peak ≤ mostKernel) × Small mostFiltered (now table) ⌝ }
+    ensures { λ r. ⌜ r ≡ ltZ (toggleSum 255 peak (sign (now (dots .entry)) m) (getD (now (table .entry)) m (pos 0)))
+        (pos 0) ⌝ }
+{
+    toggle_sum(peak, dots, table, m) < 0
 }
 
 // c at the offset from one cell back to another, 0 past 2r
@@ -99,6 +120,21 @@ pub fn lower_swap(dots: &[u8], table: &[i32], m: usize, n: usize, worth: i32) ->
 {
     if difference(dots, table, m, n) + worth < 0 {
         return dots[m] != dots[n];
+    }
+    false
+}
+
+// the same where neither cell is locked, which is tested last, since the sum is seldom below 0
+pub fn takes_swap(gray: &[u8], dots: &[u8], table: &[i32], m: usize, n: usize, worth: i32) -> bool
+    requires { ⌜ (m < length (now dots)) × (n < length (now dots)) × (length (now table) ≡ length (now dots)) ⌝ }
+    requires { ⌜ (length (now gray) ≡ length (now dots)) × Small mostFiltered (now table) × (natAbs worth ≤ mostWorth) ⌝ }
+    ensures { λ r. ⌜ r ≡ takesBy (now (gray .entry)) (now (dots .entry)) (now (table .entry)) m n worth ⌝ }
+{
+    if lower_swap(dots, table, m, n, worth) {
+        if is_locked(gray[m]) {
+            return false;
+        }
+        return !is_locked(gray[n]);
     }
     false
 }

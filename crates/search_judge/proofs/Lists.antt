@@ -1,6 +1,7 @@
--- The list of a later call, judged part by part: 1 to 7 (the input), 8 and 9 (the cells named), then 20, 21 and 22.
---   input-fits  where none of 1 to 7 is drawn the plate fits
---   by-input    one of 1 to 7 is drawn
+-- The list of a later call, judged part by part: 1 to 7 and 16 (the input), 8 and 9 (the cells named), then 20, 21, 23
+-- and 22.
+--   input-fits  where none of 1 to 7 and 16 is drawn the plate fits
+--   by-input    one of these is drawn
 --   by-named    none of these, and one of 8 and 9
 --   by-rest     none of these: the rest decides
 use mathlib.Core.List.{List, _++_}
@@ -37,7 +38,7 @@ module _ (h : Later) where
 
   pub input-fits : {x : ℕ} → x ≡ firstOf input → x ≡ 0 → Fits
   input-fits e z =
-      plate-fits (h .measures) (h .psf) (h .gray) (h .dots) (length (h .table)) (none input tt e z) .halftone
+      plate-fits (h .measures) (h .psf) (h .gray) (h .dots) (length (h .table)) (none input tt e z) .0 .halftone
 
   module _ (a : Asked) {x : ℕ} (e : x ≡ firstOf input) where
     abbrev rest : List Refusal

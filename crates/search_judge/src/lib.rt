@@ -1,9 +1,12 @@
-// The lists of refusals of the later calls: 1 to 7, then those of the cells that the call names (8, 9), then 20 and 21,
-// then those of their dots (22). Each function answers the number of the first that is drawn, 0 for none.
+// The lists of refusals of the later calls: 1 to 7 and 16, then those of the cells that the call names (8, 9), then 20 and
+// 21, then those of a change of their dots (23, 22). Each function answers the number of the first that is drawn, 0 for
+// none.
 ghost use mathlib.Core.Path.{_≡_};
 ghost use Rattle.model.specs.State.{laterRefusal, toggleRefusal, swapRefusal};
 use judge_cells::judge_cell;
 use judge_cells::judge_cells;
+use judge_cells::judge_free;
+use judge_cells::judge_free_pair;
 use judge_cells::judge_like;
 use judge_cells::judge_pair;
 use judge_input::judge_later;
@@ -35,7 +38,10 @@ pub fn judge_toggle(
     if cell != 0 {
         return cell;
     }
-    judge_state(measures, psf, gray, dots, table, stats)
+    let state = judge_state(measures, psf, gray, dots, table, stats);
+    let m = index(measures.width, at);
+    let free = judge_free(gray, m);
+    first(state, free)
 }
 
 // the whole list of a swap
@@ -65,8 +71,10 @@ pub fn judge_swap(
     let state = judge_state(measures, psf, gray, dots, table, stats);
     let m = index(measures.width, at);
     let n = index(measures.width, to);
+    let free = judge_free_pair(gray, m, n);
     let like = judge_like(dots, m, n);
-    first(state, like)
+    let last = first(free, like);
+    first(state, last)
 }
 
 // the whole list of a call that names no cell

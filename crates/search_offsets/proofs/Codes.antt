@@ -12,8 +12,8 @@ use Rattle.model.specs.Partners.{Offset, offsetsOf, offsetsFrom, offsets}
 use Rattle.invariants.specs.Partners.{rowOf, columnOf, offsetOf, itself, HoldsOffsets}
 use Rattle.model.specs.Refusal.{above}
 use Rattle.model.specs.Basic.{someBelow}
-use Rattle.model.proofs.Refusal.{none-above, neither}
-use Rattle.model.proofs.State.{all-below}
+use Rattle.model.proofs.Refusal.{none-above}
+use Rattle.model.proofs.Basic.{neither, all-below}
 use Rattle.search_offsets.specs.Codes.{kept}
 
 -- what holds of the seven reaches

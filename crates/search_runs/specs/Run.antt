@@ -1,6 +1,6 @@
 -- What the quick tests of runs are handed, and what it means that a trial fails, that no toggle in a run of cells is
--- accepted, and that none of them swaps with a partner.
-use mathlib.Core.Bool.{false}
+-- accepted, that none of them swaps with a partner, and that each is locked.
+use mathlib.Core.Bool.{true, false}
 use mathlib.Core.List.{List}
 use mathlib.Core.Path.{_≡_}
 use Prim.Native.Nat.{ℕ, _+_, _-_, _≤_, _<_}
@@ -9,6 +9,7 @@ use lib.ListN.{length, getD}
 use lib.Signed.{ltZ}
 use Rattle.model.specs.Change.{sign, toggleSum}
 use Rattle.model.specs.Error.{cellAt, mostFiltered}
+use Rattle.model.specs.Lock.{locked}
 use Rattle.invariants.specs.Partners.{rowOf, columnOf}
 use Rattle.invariants.specs.Trials.{lowersBy}
 use Rattle.invariants.specs.Window.{Small}
@@ -43,3 +44,7 @@ pub record OffsetClear (width : ℕ) (dots : List ℕ) (table : List ℤ) (code 
 pub record CellsClear (width : ℕ) (dots : List ℕ) (table : List ℤ) (codes : List ℕ) (worths : List ℤ)
     (row col n : ℕ) : Type 0 where
   pub at : (j : ℕ) → j < length codes → OffsetClear width dots table (getD codes j 0) (getD worths j (pos 0)) row col n
+
+-- each of the n cells from `from` on is locked
+pub record RunLocked (gray : List ℕ) (from n : ℕ) : Type 0 where
+  pub each : (k : ℕ) → k < n → locked gray (from + k) ≡ true

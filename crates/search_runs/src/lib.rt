@@ -1,5 +1,6 @@
-// Quick tests of a run of cells by the table, without a branch in their inner loops: whether a toggle or a swap is accepted
-// in it. Where none is, the trials in order can be left out.
+// Quick tests of a run of cells by the table, mostly without a branch in their inner loops: whether a toggle or a swap
+// lowers the squared error in it, whatever is locked. Where none does, the trials in order can be left out. And how many
+// of its cells are locked.
 ghost use mathlib.Core.Bool.{true, false};
 ghost use mathlib.Core.Path.{_≡_};
 ghost use Prim.Native.Nat.{_+_, _*_, _<_, _≤_};
@@ -8,29 +9,53 @@ ghost use lib.ListN.{length};
 ghost use Rattle.model.specs.Error.{mostFiltered, mostCells};
 ghost use Rattle.invariants.specs.Plate.{cellOf};
 ghost use Rattle.invariants.specs.Window.{Small, mostKernel, mostWorth};
-ghost use Rattle.search_runs.specs.Run.{Tabled, TogglesClear, SwapsClear, CellsClear};
+ghost use Rattle.search_runs.specs.Run.{Tabled, TogglesClear, SwapsClear, CellsClear, RunLocked};
 use model::Cell;
 use search_change::difference;
-use search_change::signed;
+use search_change::lower_toggle;
 use slices::index;
+use slices::is_locked;
+use slices::least;
 
-// whether a toggle is accepted at one of the n cells from `from` on
+// how long a run of cells is from this one on: up to 16 in its row
+pub fn run_length(width: usize, at: Cell) -> usize
+    requires { ⌜ at .col < width ⌝ }
+    ensures { λ r. ⌜ (r ≤ 16) × (at .col + r ≤ width) ⌝ }
+{
+    least(16, width - at.col)
+}
+
+// whether a toggle lowers the squared error at one of the n cells from `from` on
 pub fn any_toggles(peak: i32, dots: &[u8], table: &[i32], from: usize, n: usize) -> bool
     requires { ⌜ (from + n ≤ length (now dots)) × (from + n ≤ length (now table)) ⌝ }
     requires { ⌜ (natAbs peak ≤ mostKernel) × Small mostFiltered (now table) ⌝ }
     ensures { λ r. ⌜ (r ≡ false → TogglesClear peak (now (dots .entry)) (now (table .entry)) from n) ⌝ }
 {
-    let limit = 255 * peak;
     let mut any = false;
     let mut k: usize = 0;
     while k < n {
-        let at = from + k;
-        if 2 * signed(dots[at], table[at]) + limit < 0 {
+        if lower_toggle(peak, dots, table, from + k) {
             any = true;
         }
         k += 1;
     }
     any
+}
+
+// how many of the n cells from `from` on come before the first where a toggle lowers the squared error
+pub fn quiet_toggles(peak: i32, dots: &[u8], table: &[i32], from: usize, n: usize) -> usize
+    requires { ⌜ (from + n ≤ length (now dots)) × (from + n ≤ length (now table)) ⌝ }
+    requires { ⌜ (natAbs peak ≤ mostKernel) × Small mostFiltered (now table) ⌝ }
+    ensures { λ r. ⌜ (r ≤ n) × TogglesClear peak (now (dots .entry)) (now (table .entry)) from r ⌝ }
+{
+    let mut k: usize = 0;
+    while k < n {
+        if lower_toggle(peak, dots, table, from + k) {
+            return k;
+        }
+        k += 1;
+    }
+    n
 }
 
 // whether a swap of one of the n cells from `from` on with the cell as far from `to` lowers the squared error
@@ -91,4 +116,19 @@ pub fn swaps_clear(
         }
     }
     true
+}
+
+// how many of the n cells from `from` on are locked, up to the first that is not
+pub fn locked_run(gray: &[u8], from: usize, n: usize) -> usize
+    requires { ⌜ from + n ≤ length (now gray) ⌝ }
+    ensures { λ r. ⌜ (r ≤ n) × RunLocked (now (gray .entry)) from r ⌝ }
+{
+    let mut k: usize = 0;
+    while k < n {
+        if !is_locked(gray[from + k]) {
+            return k;
+        }
+        k += 1;
+    }
+    n
 }

@@ -3,7 +3,8 @@
 --   offset-near    the offsets that the code holds are within reach
 --   none-lowers    of one cell, in the rows around it
 --   run-failed     of a run of cells: every trial at each of them fails
-use mathlib.Core.Bool.{Bool, true, false}
+--   run-locked     of a run of locked cells
+use mathlib.Core.Bool.{Bool, true, false, not, _&&_}
 use mathlib.Core.List.{List, [], _∷_}
 use mathlib.Core.Path.{_≡_, refl, sym, _∙_, subst}
 use Prim.Native.Nat.{ℕ, _+_, _*_, _-_, _≤_, _<_}
@@ -16,17 +17,19 @@ use Rattle.algebra.proofs.Order.{read≡}
 use Rattle.algebra.proofs.Solver.{reify}
 use Rattle.model.specs.declared.Cell.{Cell}
 use Rattle.model.specs.declared.Measures.{Measures}
-use Rattle.model.specs.Error.{targetFor, cellAt}
-use Rattle.model.specs.Partners.{lands, Within}
-use Rattle.invariants.specs.Partners.{biased, rowOf, columnOf, worthAt, HoldsOffsets, HoldsWorths}
+use Rattle.model.specs.Change.{swap, lowers}
+use Rattle.model.specs.Error.{Target, targetFor, cellAt}
+use Rattle.model.specs.Lock.{locked}
+use Rattle.model.specs.Partners.{Offset, lands, partner, Within}
+use Rattle.invariants.specs.Partners.{offsetOf, biased, rowOf, columnOf, worthAt, HoldsOffsets, HoldsWorths}
 use Rattle.invariants.specs.Plate.{Judged, OnPlate, cellOf}
-use Rattle.invariants.specs.Trials.{lowersAt, Failed}
+use Rattle.invariants.specs.Trials.{lowersAt, takesBy, Failed}
 use Rattle.invariants.proofs.Plate.{judged-small}
 use Rattle.invariants.proofs.Trials.{failed-all}
 use Rattle.model.proofs.Partners.{entry-within}
 use Rattle.search_prune.specs.Grid.{rowLength, worthIn, GridFits, RowsClear}
 use Rattle.search_prune.proofs.Grid.{row-length-fits}
-use Rattle.search_runs.specs.Run.{Tabled, Fails, CellsClear}
+use Rattle.search_runs.specs.Run.{Tabled, Fails, CellsClear, RunLocked}
 use Rattle.search_swaps.proofs.Partner.{landed, stands, trial-is}
 
 -- the table of a judged plate is what a quick test asks for
@@ -72,6 +75,16 @@ entry-is r c reach grid g down right y x =
     ∙ rw (cell-row {y = j} short, cell-column j short, le-leb i (2 * reach) (omega arith), row, column) refl
 
 -- ---- the partner at an offset is not taken
+-- where a trial fails by the table it is not taken, whatever is locked
+still-fails : (gray dots : List ℕ) (table : List ℤ) (m n : ℕ) (worth : ℤ) → Fails dots table m n worth
+    → takesBy gray dots table m n worth ≡ false
+still-fails gray dots table m n worth e = rw e (go (locked gray m) (locked gray n))
+  where
+    go : (a b : Bool) → not a && (not b && false) ≡ false
+    go true b = refl
+    go false true = refl
+    go false false = refl
+
 module _ {m : Measures} {psf gray : List ℕ} {c : List ℤ} {dots : List ℕ} {table : List ℤ}
     (j : Judged m psf gray c dots table) {at : Cell} (on : OnPlate m at) where
   abbrev Missed : ℕ → ℕ → Type 0
@@ -92,7 +105,7 @@ module _ {m : Measures} {psf gray : List ℕ} {c : List ℤ} {dots : List ℕ} {
           = landed (m .width) (m .height) (at .row) (at .col) (on .col-below) down right l in
           sym (trial-is j on down right l
           (sym (stands (m .width) (m .height) (at .row) (at .col) (on .col-below) down right l)) refl
-          (sym (fails top first bottom)))
+          (sym (still-fails gray dots table _ _ _ (fails top first bottom))))
 
   -- in rows where every trial fails
   pub none-lowers : {reach : ℕ} {grid : List ℤ} → GridFits (m .radius) c reach grid
@@ -122,3 +135,17 @@ run-failed {m} {psf} {gray} {dots} j {at} on {reach} {codes} held worth short cl
   where
     there : cellOf (m .width) at + i ≡ cellAt (m .width) (at .row) (at .col + i)
     there = omega arith
+
+-- ---- nor at any locked cell
+locked-fails : (t : Target) (dots : List ℕ) (m : ℕ) (o : Offset) → locked (t .gray) m ≡ true → lowersAt t dots m o ≡ false
+locked-fails t dots m o e = rw e (go (lands (t .width) (t .height) m o))
+  where
+    go : (b : Bool) → (b && false) && lowers t dots (swap dots m (partner (t .width) m o)) ≡ false
+    go true = refl
+    go false = refl
+
+pub run-locked : (t : Target) {reach : ℕ} {codes : List ℕ} → HoldsOffsets reach codes → (dots : List ℕ) {from n : ℕ}
+    → RunLocked (t .gray) from n → (i : ℕ) → i < n → Failed t reach dots (from + i) (length codes)
+run-locked t {codes} held dots {from} run i h =
+    failed-all t held dots (from + i) (λ k l.
+    locked-fails t dots (from + i) (offsetOf (getD codes k 0)) (run .each i h))

@@ -1,7 +1,6 @@
 -- The partner of the cell at (row, col) at an offset whose coordinates have 6 added.
 --   landed, stands                  it lands on a row and in a column of the plate, and where it stands
 --   partner-there, partner-missing  what the code is told: the cell, or the number of cells
---   suits-lands, suits-unlike       where it suits: it lands, and its dot is unlike
 --   trial-is                        the test by the table and by what the offset is worth is whether the swap lowers E
 use mathlib.Core.Bool.{Bool, true, false, _&&_, not, and-eq-true-iff}
 use mathlib.Core.List.{List, [], _∷_}
@@ -22,9 +21,10 @@ use Rattle.model.specs.Change.{sign, swapSum, swap, lowers}
 use Rattle.model.specs.Error.{Target, targetFor, cellAt}
 use Rattle.model.specs.Partners.{Offset, inside, lands, partner}
 use Rattle.invariants.specs.Partners.{biased, worthAt}
-use Rattle.model.specs.Scan.{suits}
+use Rattle.model.specs.Lock.{locked}
+use Rattle.model.specs.Scan.{exchangeable}
 use Rattle.invariants.specs.Plate.{Judged, OnPlate, cellOf}
-use Rattle.invariants.specs.Trials.{lowersAt, lowersBy}
+use Rattle.invariants.specs.Trials.{lowersAt, takesBy}
 use Rattle.invariants.proofs.Plate.{swap-weighs}
 use Rattle.model.proofs.Partners.{lands-on}
 use Rattle.model.proofs.State.{below}
@@ -93,30 +93,14 @@ module _ (w h row col : ℕ) (across : col < w) (down right : ℕ) where
         go true e below = absurd (omega (arith, below refl))
         go false e below = refl
 
--- ---- where it suits: it lands, and its dot is unlike
-module _ (t : Target) (row col : ℕ) (across : col < t .width) (down right : ℕ) (dots : List ℕ)
-    (e : suits t dots (cellAt (t .width) row col) (biased down right) ≡ true) where
-  abbrev cell : ℕ
-  cell = cellAt (t .width) row col
-
-  suited : (lands (t .width) (t .height) cell (biased down right) ≡ true)
-      × (not (eqb (getD dots cell 0) (getD dots (partner (t .width) cell (biased down right)) 0)) ≡ true)
-  suited = and-eq-true-iff _ _ .0 e
-
-  pub suits-lands : lands (t .width) (t .height) (cellAt (t .width) row col) (biased down right) ≡ true
-  suits-lands = suited .0
-
-  pub suits-unlike : getD dots (cellAt (t .width) row col) 0
-      ≡ getD dots (cellAt (t .width) (row + down - 6) (col + right - 6)) 0
-      → ⊥
-  suits-unlike =
-      subst (λ n. getD dots cell 0 ≡ getD dots n 0 → ⊥)
-      (stands (t .width) (t .height) row col across down right (suited .0)) (eqb-false _ _ (not-true _ (suited .1)))
-
 -- ---- a trial there: the test by the table and by what the offset is worth
-and-same : (a : Bool) {b c : Bool} → (a ≡ true → b ≡ c) → a && b ≡ a && c
-and-same true e = e refl
-and-same false e = refl
+-- which is made of cells that are not locked and whose dots are unlike
+regroup : (a b u : Bool) {f l : Bool} → (u ≡ true → f ≡ l)
+    → not a && (not b && (u && f)) ≡ (not a && (not b && u)) && l
+regroup true b u e = refl
+regroup false true u e = refl
+regroup false false true e = e refl
+regroup false false false e = refl
 
 module _ {m : Measures} {psf gray : List ℕ} {c : List ℤ} {dots : List ℕ} {table : List ℤ}
     (j : Judged m psf gray c dots table) {at : Cell} (on : OnPlate m at) (down right : ℕ)
@@ -164,12 +148,12 @@ module _ {m : Measures} {psf gray : List ℕ} {c : List ℤ} {dots : List ℕ} {
 
   pub trial-is : {i : ℕ} {worth : ℤ} {answer : Bool} → i ≡ partner (m .width) (cellOf (m .width) at) (biased down right)
       → worth ≡ worthAt (m .radius) c down right
-      → answer ≡ lowersBy dots table (cellOf (m .width) at) i worth
+      → answer ≡ takesBy gray dots table (cellOf (m .width) at) i worth
       → answer ≡ lowersAt (targetFor m psf gray) dots (cellOf (m .width) at) (biased down right)
   trial-is u v d =
       d
-      ∙ ap₂ (λ i worth. unlike i && falls i worth) (u ∙ stood) v
-      ∙ and-same (unlike (cellOf (m .width) to)) falls-is
-      ∙ ap (λ i. unlike i && lowers t dots (swap dots q i)) (sym stood)
-      ∙ ap (λ b. (b && unlike (partner (m .width) q (biased down right)))
+      ∙ ap₂ (takesBy gray dots table q) (u ∙ stood) v
+      ∙ regroup (locked gray q) (locked gray (cellOf (m .width) to)) (unlike (cellOf (m .width) to)) falls-is
+      ∙ ap (λ i. exchangeable t dots q i && lowers t dots (swap dots q i)) (sym stood)
+      ∙ ap (λ b. (b && exchangeable t dots q (partner (m .width) q (biased down right)))
       && lowers t dots (swap dots q (partner (m .width) q (biased down right)))) (sym l)

@@ -1,5 +1,5 @@
-// A swap scan of a judged plate whose kernel is c. A trial is decided by the table in a few operations, and cells where no
-// partner can lower the squared error are passed over.
+// A swap scan of a judged plate whose kernel is c. A trial is decided by the table in a few operations; locked cells, and
+// cells where no partner can lower the squared error, are passed over.
 ghost use mathlib.Core.Bool.{true};
 ghost use mathlib.Core.Path.{_≡_};
 ghost use Prim.Native.Nat.{ℕ, _+_, _^_, _≤_, _<_};
@@ -15,7 +15,7 @@ use model::Cell;
 use model::Measures;
 use model::Progress;
 use model::Stats;
-use search_change::lower_swap;
+use search_change::takes_swap;
 use search_offsets::within_reach;
 use search_partners::ahead;
 use search_partners::next;
@@ -24,12 +24,14 @@ use search_partners::weigh_offsets;
 use search_prune::grid_size;
 use search_prune::lay_worths;
 use search_prune::may_lower;
+use search_runs::locked_run;
+use search_runs::run_length;
 use search_runs::swaps_clear;
 use search_toggles::run_end;
 use search_trial::advance;
 use search_trial::swap;
 use slices::index;
-use slices::least;
+use slices::is_locked;
 
 // One trial of a swap scan: whether the partner at the offset of that code suits and the swap with it lowers the squared
 // error; `worth` is 255 × (P - c) of the offset.
@@ -54,12 +56,12 @@ fn lowering(
     if table.len() <= n {
         return false;
     }
-    lower_swap(dots, table, m, n, worth)
+    takes_swap(gray, dots, table, m, n, worth)
 }
 
-// How many cells from here on can be passed over, no swap being accepted at any: a run of up to 16 in this row, or 0 where
-// one might be. Cells before `tested` are in a run where one was found. With many partners the test of a run takes longer
-// than that of its cells, so it is made up to reach 2.
+// How many cells from here on can be passed over, no swap being accepted at any: those that are locked, or a run of up to
+// 16 in this row, or 0 where one might be. Cells before `tested` are in a run where one was found. With many partners the
+// test of a run takes longer than that of its cells, so it is made up to reach 2.
 fn clear_swaps(
     measures: Measures,
     psf: &[u8],
@@ -79,13 +81,16 @@ fn clear_swaps(
         (cellOf (measures .width) at + k) (length (now (codes .entry)))) ⌝ }
 {
     let m = index(measures.width, at);
+    if is_locked(gray[m]) {
+        return locked_run(gray, m, run_length(measures.width, at));
+    }
     if m < tested {
         return 0;
     }
     if 2 < measures.reach {
         return 0;
     }
-    let n = least(16, measures.width - at.col);
+    let n = run_length(measures.width, at);
     if swaps_clear(measures.width, codes, worths, dots, table, at, n) {
         return n;
     }
@@ -124,7 +129,7 @@ fn first_trial(
     codes.len()
 }
 
-// The swap of a cell with the partner found, if one was.
+// The swap of a cell with the partner found.
 fn swap_cell(
     measures: Measures,
     psf: &[u8],
@@ -139,15 +144,12 @@ fn swap_cell(
 ) -> Progress
     requires { ⌜ Ready measures (now psf) (now gray) (now c) (now dots) (now table) (progress .stats) ⌝ }
     requires { ⌜ OnPlate measures at × (progress .changes < 2 ^ 63) × HoldsOffsets (measures .reach) (now codes) ⌝ }
-    requires { ⌜ (found < length (now codes) → lowersAt (targetFor measures (now psf) (now gray)) (now dots)
+    requires { ⌜ (found < length (now codes)) × (lowersAt (targetFor measures (now psf) (now gray)) (now dots)
         (cellOf (measures .width) at) (offsetOf (getD (now codes) found 0)) ≡ true) ⌝ }
     ensures { λ r. ⌜ (let t = targetFor measures (now (psf .entry)) (now (gray .entry)) in
         Leaves t (performed t (visit t (swapsAfter t (measures .reach) found) (now (dots .entry)) progress
         (cellOf (measures .width) at))) r (now (dots .exit)) (now (table .exit))) ⌝ }
 {
-    if codes.len() <= found {
-        return progress;
-    }
     let code = codes[found];
     let to = Cell {
         row: at.row + (code / 16) as usize - 6,
@@ -211,18 +213,20 @@ fn swap_by(
                 }
                 k += 1;
             };
-            progress = swap_cell(
-                measures,
-                psf,
-                gray,
-                c,
-                codes,
-                dots,
-                table,
-                progress,
-                at,
-                found,
-            );
+            if found < codes.len() {
+                progress = swap_cell(
+                    measures,
+                    psf,
+                    gray,
+                    c,
+                    codes,
+                    dots,
+                    table,
+                    progress,
+                    at,
+                    found,
+                );
+            }
             at = next(measures.width, at);
         }
     }

@@ -1,4 +1,5 @@
-// A toggle scan of a judged plate whose kernel is c. Runs of cells where no toggle is accepted are passed over.
+// A toggle scan of a judged plate whose kernel is c. Locked cells, and runs of cells where no toggle is accepted, are
+// passed over.
 ghost use mathlib.Core.Bool.{false};
 ghost use mathlib.Core.Path.{_≡_};
 ghost use Prim.Native.Nat.{ℕ, _+_, _^_, _≤_, _<_};
@@ -17,12 +18,14 @@ use search_change::peak;
 use search_partners::ahead;
 use search_partners::next;
 use search_runs::any_toggles;
+use search_runs::quiet_toggles;
+use search_runs::run_length;
 use search_trial::advance;
 use search_trial::toggle;
 use slices::index;
-use slices::least;
+use slices::is_locked;
 
-// a toggle scan at one cell
+// a toggle scan at one cell, which is passed over where it is locked
 fn toggle_cell(
     measures: Measures,
     psf: &[u8],
@@ -39,12 +42,15 @@ fn toggle_cell(
         Leaves t (performed t (visit t (toggles t) (now (dots .entry)) progress (cellOf (measures .width) at)))
         r (now (dots .exit)) (now (table .exit))) ⌝ }
 {
+    if is_locked(gray[index(measures.width, at)]) {
+        return progress;
+    }
     let answer = toggle(measures, psf, gray, c, dots, table, progress.stats, at);
     advance(progress, answer)
 }
 
-// How many cells from here on can be passed over, a toggle being accepted at none: a run of up to 16 in this row, or 0
-// where one is accepted in it. Cells before `tested` are in a run where one was found.
+// How many cells from here on can be passed over, a toggle lowering the squared error at none: a run of up to 16 in this
+// row, or those of it before the first where one does. Cells before `tested` are in a run where one was found.
 fn clear_run(
     measures: Measures,
     psf: &[u8],
@@ -61,14 +67,14 @@ fn clear_run(
         (Change.toggle (now (dots .entry)) (cellOf (measures .width) at + k)) ≡ false) ⌝ }
 {
     let m = index(measures.width, at);
-    if m < tested {
-        return 0;
+    let n = run_length(measures.width, at);
+    let peak = peak(measures.radius, c);
+    if tested <= m {
+        if !any_toggles(peak, dots, table, m, n) {
+            return n;
+        }
     }
-    let n = least(16, measures.width - at.col);
-    if any_toggles(peak(measures.radius, c), dots, table, m, n) {
-        return 0;
-    }
-    n
+    quiet_toggles(peak, dots, table, m, n)
 }
 
 // the end of the run that was tested
@@ -79,7 +85,7 @@ pub fn run_end(width: usize, at: Cell, tested: usize) -> usize
     if m < tested {
         return tested;
     }
-    m + least(16, width - at.col)
+    m + run_length(width, at)
 }
 
 // A toggle scan: what it has come to at its end.

@@ -1,11 +1,12 @@
-// Leaves that many crates use: slices cleared, copied, summed and put into one another, the lesser of two numbers, and
-// where a cell stands in a slice of cells.
+// Leaves that many crates use: slices cleared, copied, summed and put into one another, the lesser of two numbers, where
+// a cell stands in a slice of cells, and whether it is locked.
 ghost use mathlib.Core.Path.{_≡_};
 ghost use Prim.Native.Nat.{_≤_, _<_, _+_, min};
 ghost use lib.IntN.{pos};
 ghost use lib.ListN.{length};
 ghost use Rattle.model.specs.Basic.{tabulate};
 ghost use Rattle.model.specs.Error.{cellAt, mostCells};
+ghost use Rattle.model.specs.Lock.{lockedGray};
 ghost use Rattle.model.specs.Psf.{total};
 ghost use Rattle.model.specs.Text.{Puts};
 use model::Cell;
@@ -16,6 +17,16 @@ pub fn index(width: usize, at: Cell) -> usize
     ensures { λ r. ⌜ r ≡ cellAt width (at .row) (at .col) ⌝ }
 {
     at.row * width + at.col
+}
+
+// whether a cell of that gray is locked: bare paper, or lettering
+pub fn is_locked(gray: u8) -> bool
+    ensures { λ r. ⌜ r ≡ lockedGray gray ⌝ }
+{
+    if gray == 0 {
+        return true;
+    }
+    gray == 255
 }
 
 // the lesser of two
@@ -37,17 +48,6 @@ pub fn sum(bytes: &[u8]) -> usize
         i += 1;
     }
     sum
-}
-
-// every byte 0
-pub fn clear_bytes(out: &mut [u8])
-    ensures { λ _. ⌜ now (out .exit) ≡ tabulate (length (now (out .entry))) (λ n. 0) ⌝ }
-{
-    let mut n: usize = 0;
-    while n < out.len() {
-        out[n] = 0;
-        n += 1;
-    }
 }
 
 // every number 0

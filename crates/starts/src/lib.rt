@@ -33,8 +33,8 @@ fn begin_plate(measures: Measures, psf: &[u8], gray: &[u8], dots: &[u8], table: 
     fresh(dots, squared)
 }
 
-// A start of the kind that the measures name: 0 all blank, 1 by the thresholds, 2 the dots given. That gray is made of
-// bytes, which the promises ask for, is handed to the caller.
+// A start of the kind that the measures name: 0 all blank that is not locked, 1 by the thresholds, 2 the dots given. That
+// gray is made of bytes, which the promises ask for, is handed to the caller.
 pub fn start(
     measures: Measures,
     psf: &[u8],

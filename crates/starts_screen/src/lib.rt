@@ -3,14 +3,14 @@
 ghost use mathlib.Core.Path.{_≡_};
 ghost use Prim.Native.Nat.{_*_, _<_, _≤_};
 ghost use lib.ListN.{length};
-ghost use Rattle.model.specs.Basic.{tabulate};
+ghost use Rattle.model.specs.Basic.{pick, tabulate};
 ghost use Rattle.model.specs.Error.{Target, squaredError, mostCells};
 ghost use Rattle.model.specs.Ledger.{freshStats};
-ghost use Rattle.model.specs.Screen.{thresholds, thresholdAt, screened, ordered, startDots};
+ghost use Rattle.model.specs.Lock.{lockedGray, lockedByte};
+ghost use Rattle.model.specs.Screen.{thresholds, thresholdAt, blank, screened, ordered, startDots};
 use model::Figures;
 use model::Measures;
 use model::Stats;
-use slices::clear_bytes;
 use slices::sum;
 
 // the thresholds, row by row
@@ -71,6 +71,25 @@ fn order(array: &[u8], width: usize, gray: &[u8], dots: &mut [u8])
     }
 }
 
+// the dot of a cell of that gray where all is blank that is not locked
+fn blank_dot(gray: u8) -> u8
+    ensures { λ r. ⌜ r ≡ pick (lockedGray gray) (lockedByte 1 gray) 0 ⌝ }
+{
+    if gray == 255 { 1 } else { 0 }
+}
+
+// all blank that is not locked
+fn blank_dots(gray: &[u8], dots: &mut [u8])
+    requires { ⌜ length (now dots) ≡ length (now gray) ⌝ }
+    ensures { λ _. ⌜ now (dots .exit) ≡ tabulate (length (now (gray .entry))) (blank (now (gray .entry))) ⌝ }
+{
+    let mut n: usize = 0;
+    while n < gray.len() {
+        dots[n] = blank_dot(gray[n]);
+        n += 1;
+    }
+}
+
 // the dots of a start of judged measures
 pub fn start_dots(measures: Measures, gray: &[u8], dots: &mut [u8])
     requires { ⌜ 0 < measures .width ⌝ }
@@ -80,7 +99,7 @@ pub fn start_dots(measures: Measures, gray: &[u8], dots: &mut [u8])
 {
     let kind = measures.start;
     match kind {
-        0 => clear_bytes(dots),
+        0 => blank_dots(gray, dots),
         1 => order(&THRESHOLDS, measures.width, gray, dots),
         _ => {}
     }

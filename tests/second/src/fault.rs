@@ -159,7 +159,55 @@ pub enum Fault {
     FallWraps,
     /// one of the conditions for a filed sheet's ledger passed over; that for the counts follows from those before it
     ConditionPassedOver(usize),
-    /// two neighbours in the order of the refusals 1 to 9 and 20 to 22 exchanged, this one and the next
+    /// gray 0 not locked
+    PaperNotLocked,
+    /// gray 255 not locked
+    InkNotLocked,
+    /// gray 1 locked, as gray 0 is
+    Gray1Locked,
+    /// gray 254 locked, as gray 255 is
+    Gray254Locked,
+    /// a start of kind 0 that makes all blank
+    InkStartsBlank,
+    /// a locked cell toggled in a scan
+    LockedToggled,
+    /// a locked cell swapped in a scan, as the cell that is visited
+    LockedSwapped,
+    /// a locked partner taken in a scan
+    LockedPartnerTaken,
+    /// a swap scan that leaves a cell at its first locked partner
+    LockedPartnerEndsCell,
+    /// 16 by its number: after 8 and 9
+    CellsBeforeLocks,
+    /// 23 before 20
+    LockBeforeState,
+    /// 16 by every call that draws 7, the table, E and the writers among them
+    LocksJudgedWithDots,
+    /// 16 not judged at a start
+    LocksNotJudgedAtStart,
+    /// 16 judged at a start of any kind
+    LocksJudgedAtAnyStart,
+    /// 16 not judged by later calls
+    LocksNotJudgedLater,
+    /// 16 judged by later calls with start kind 2 alone
+    LocksJudgedByKind,
+    /// 23 not judged for the first cell that is named
+    FirstLockNotJudged,
+    /// 23 not judged for the second cell of a swap
+    SecondLockNotJudged,
+    /// 23 for a swap only where both cells are locked
+    BothLocksNeeded,
+    /// no rest where a toggle of a locked cell lowers E
+    LockedTogglesDisturb,
+    /// no rest where a swap with a locked cell lowers E
+    LockedSwapsDisturb,
+    /// rest judged where the dots of a filed sheet contradict a locked cell
+    ContradictionNotTold,
+    /// the check of such a sheet refused with 16
+    ContradictionRefused,
+    /// a ledger that does not fit because of such dots
+    ContradictionUnfits,
+    /// two neighbours in the order of the refusals of plates exchanged, this one and the next
     Exchanged(usize),
 }
 
@@ -171,7 +219,7 @@ impl Fault {
     }
 }
 
-const SINGLE: [Fault; 83] = [
+const SINGLE: [Fault; 107] = [
     Fault::PsfTransposed,
     Fault::Folded,
     Fault::TiesAccepted,
@@ -255,4 +303,28 @@ const SINGLE: [Fault; 83] = [
     Fault::ConditionPassedOver(2),
     Fault::ConditionPassedOver(3),
     Fault::ConditionPassedOver(4),
+    Fault::PaperNotLocked,
+    Fault::InkNotLocked,
+    Fault::Gray1Locked,
+    Fault::Gray254Locked,
+    Fault::InkStartsBlank,
+    Fault::LockedToggled,
+    Fault::LockedSwapped,
+    Fault::LockedPartnerTaken,
+    Fault::LockedPartnerEndsCell,
+    Fault::CellsBeforeLocks,
+    Fault::LockBeforeState,
+    Fault::LocksJudgedWithDots,
+    Fault::LocksNotJudgedAtStart,
+    Fault::LocksJudgedAtAnyStart,
+    Fault::LocksNotJudgedLater,
+    Fault::LocksJudgedByKind,
+    Fault::FirstLockNotJudged,
+    Fault::SecondLockNotJudged,
+    Fault::BothLocksNeeded,
+    Fault::LockedTogglesDisturb,
+    Fault::LockedSwapsDisturb,
+    Fault::ContradictionNotTold,
+    Fault::ContradictionRefused,
+    Fault::ContradictionUnfits,
 ];

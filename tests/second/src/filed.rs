@@ -122,6 +122,9 @@ impl Second {
         if self.sum_outside(&filed.plate.psf) {
             return Err((0, 6));
         }
+        if self.has(Fault::ContradictionRefused) && self.contradicts(&filed.plate) {
+            return Err((0, 16));
+        }
         store(&filed.plate, handed);
         self.store_table(&filed.plate, &mut handed.table);
         handed.verdict = self.verdict(&filed).to_vec();
@@ -186,10 +189,20 @@ impl Second {
             Some(Fault::BeforeCompared) => before == squared,
             _ => after == squared,
         };
-        let rests = self.has(Fault::RestNotTried) || Plate::new(&filed.plate, self.fault).rests();
-        let verdicts = [agrees, self.fits(filed, squared), rests];
-        let [agrees, fits, rests] = verdicts.map(|holds| i64::from(holds || self.has(Fault::AllVerdictsGood)));
-        [after, squared, agrees, fits, rests, filed.plate.cells() as i64]
+        let verdicts = [agrees, self.fits(filed, squared)];
+        let [agrees, fits] = verdicts.map(|holds| i64::from(holds || self.has(Fault::AllVerdictsGood)));
+        [after, squared, agrees, fits, self.resting(&filed.plate), filed.plate.cells() as i64]
+    }
+
+    /// 1 where the plate rests, else 0; -16 where a start would draw 16 of its dots.
+    fn resting(&self, plate: &Handed) -> i64 {
+        match self.fault {
+            Some(Fault::RestNotTried | Fault::AllVerdictsGood) => return 1,
+            Some(Fault::ContradictionNotTold) => {}
+            _ if self.contradicts(plate) => return -16,
+            _ => {}
+        }
+        i64::from(Plate::new(plate, self.fault).rests())
     }
 
     /// E of the filed dots.
@@ -216,6 +229,7 @@ impl Second {
             start_dots > filed.plate.cells() as i128,
             before - after < if wraps { i128::from(fall as i64) } else { fall },
             !wraps && [on, off, swaps].iter().any(|&count| count > i128::from(MAX_COUNT)),
+            self.has(Fault::ContradictionUnfits) && self.contradicts(&filed.plate),
         ];
         let judged = |&(at, _): &(usize, bool)| !self.has(Fault::ConditionPassedOver(at));
         !conditions.into_iter().enumerate().filter(judged).any(|(_, holds)| holds)

@@ -8,7 +8,7 @@ use crate::handed::{
     STATS_SWAPS,
 };
 use crate::picture::{pbm, pgm, row_bytes, PBM, PGM};
-use crate::plain::{Plate, MAX_COUNT, MAX_ERROR};
+use crate::plain::{lock, Plate, MAX_COUNT, MAX_ERROR};
 use crate::sheet;
 use std::cmp::Reverse;
 use std::time::{SystemTime, UNIX_EPOCH};
@@ -115,17 +115,54 @@ fn psf_of_sum(random: &mut Random, entries: usize, sum: usize) -> Vec<u8> {
     psf
 }
 
-/// Gray: any, one value for all, black and paper, or near the middle.
+/// The grays of locked cells, and the grays of all that are locked or next to it.
+const LOCKED: [u8; 2] = [0, 255];
+const ENDS: [u8; 4] = [0, 1, 254, 255];
+
+/// Gray: any, one value for all, the ends, near the middle, without locked cells, with a few of them, paper among light
+/// cells or ink among dark ones, or in runs, half of which are locked.
 fn gray(random: &mut Random, cells: usize) -> Vec<u8> {
-    let one = random.any() as u8;
-    let kind = random.below(4);
+    let end = random.pick(&ENDS);
+    let mut one = if random.one_in(4) { end } else { random.any() as u8 };
+    let (light, kind) = (random.within(30, 110) as u8, random.below(9));
+    let among = if random.one_in(2) { [0, light] } else { [255, 255 - light] };
     let cell = |_| match kind {
         0 => random.any() as u8,
         1 => one,
-        2 => random.pick(&[0, 255]),
-        _ => random.pick(&[126, 127, 128, 129]),
+        2 => random.pick(&ENDS),
+        3 => random.pick(&[126, 127, 128, 129]),
+        4 => random.within(1, 254) as u8,
+        5 if random.one_in(6) => random.pick(&LOCKED),
+        5 => random.any() as u8,
+        6 => random.pick(&among),
+        _ => {
+            if random.one_in(4) {
+                one = if random.one_in(2) { random.pick(&LOCKED) } else { random.any() as u8 };
+            }
+            one
+        }
     };
     (0..cells).map(cell).collect()
+}
+
+fn is_locked(handed: &Handed, (row, col): Cell) -> bool {
+    lock(handed.gray[row * handed.width + col], None).is_some()
+}
+
+pub fn has_locks(handed: &Handed) -> bool {
+    handed.gray.iter().any(|&gray| lock(gray, None).is_some())
+}
+
+/// Gives every locked cell its dot.
+fn fit(handed: &mut Handed) {
+    let cells = handed.dots.iter_mut().zip(&handed.gray);
+    cells.for_each(|(dot, &gray)| *dot = lock(gray, None).unwrap_or(*dot));
+}
+
+/// Locks a cell that its dot contradicts.
+pub fn contradict(random: &mut Random, handed: &mut Handed) {
+    let at = random.below(handed.cells());
+    handed.gray[at] = 255 * (1 - handed.dots[at]);
 }
 
 /// Dots: any, all blank, all dots, few.
@@ -150,13 +187,13 @@ pub fn handed(random: &mut Random, (width, height): (usize, usize)) -> Handed {
     handed.psf = psf(random, radius);
     handed.gray = gray(random, width * height);
     handed.dots = dots(random, width * height);
-    (handed.row, handed.col) = (random.below(height), random.below(width));
+    fit(&mut handed);
+    (handed.row, handed.col) = cell(random, &handed);
     (handed.row2, handed.col2) = partner(random, &handed, true);
     if radius > 0 && handed.cells() > 1 && random.one_in(8) {
         tie(&mut handed);
     }
-    handed.table = Plate::new(&handed, None).filtered_error().into_iter().map(|t| t as i32).collect();
-    handed.stats = stats(random, &handed);
+    state(random, &mut handed);
     handed.autocorrelation = (0..(4 * radius + 1).pow(2)).map(|_| random.any() as i32).collect();
     (handed.error, handed.change) = (random.any() as i64, random.any() as i64);
     (handed.changes, handed.scans) = (random.any(), random.any());
@@ -164,7 +201,14 @@ pub fn handed(random: &mut Random, (width, height): (usize, usize)) -> Handed {
     handed
 }
 
+/// The table of the dots, and stats that they could have come to.
+fn state(random: &mut Random, handed: &mut Handed) {
+    handed.table = Plate::new(handed, None).filtered_error().into_iter().map(|t| t as i32).collect();
+    handed.stats = stats(random, handed);
+}
+
 /// Takes a psf of two ones side by side, and grays with which a toggle of the named cell changes nothing, if there are any.
+/// Neither that cell nor the one beside it is then locked.
 fn tie(handed: &mut Handed) {
     let (side, middle) = (2 * handed.radius + 1, handed.psf.len() / 2);
     let (in_row, cell) = (handed.width > 1, (handed.row, handed.col));
@@ -173,15 +217,15 @@ fn tie(handed: &mut Handed) {
     let at = handed.row * handed.width + handed.col;
     let beside = if at > 0 { at - 1 } else { at + 1 };
     for _ in 0..2 {
-        handed.gray[beside] ^= 1;
+        handed.gray[beside] = handed.gray[beside].clamp(2, 253) ^ 1;
         // the change rises or falls evenly with the gray
         let [paper, next] = [0, 1].map(|gray| {
             handed.gray[at] = gray;
             Plate::new(handed, None).change(&[cell])
         });
-        let tied = u8::try_from(paper / (paper - next));
-        if let (0, Ok(gray)) = (paper % (paper - next), tied) {
-            handed.gray[at] = gray;
+        let tied = paper / (paper - next);
+        if paper % (paper - next) == 0 && (1..255).contains(&tied) {
+            handed.gray[at] = tied as u8;
             return;
         }
     }
@@ -210,8 +254,14 @@ fn stats(random: &mut Random, handed: &Handed) -> Vec<i64> {
     stats
 }
 
+/// A cell, and where one is soon found one that is not locked.
+fn cell(random: &mut Random, handed: &Handed) -> Cell {
+    let cells = [(); 8].map(|()| (random.below(handed.height), random.below(handed.width)));
+    *cells.iter().find(|&&cell| !is_locked(handed, cell)).unwrap_or(&cells[0])
+}
+
 /// A second cell for a swap, on the plate and within the reach, and where one is soon found with a dot that differs from
-/// that of the first cell, or with an equal one.
+/// that of the first cell, or with an equal one, and not locked.
 fn partner(random: &mut Random, handed: &Handed, differs: bool) -> Cell {
     let mut near = |from: usize, size: usize| {
         let least = from.saturating_sub(handed.reach);
@@ -221,15 +271,34 @@ fn partner(random: &mut Random, handed: &Handed, differs: bool) -> Cell {
     let first = (handed.row, handed.col);
     let cells = (0..8).map(|_| (near(first.0, handed.height), near(first.1, handed.width)));
     let others: Vec<Cell> = cells.filter(|&cell| cell != first).collect();
-    let wanted = others.iter().find(|&&cell| (dot(cell) != dot(first)) == differs);
-    *wanted.or(others.first()).unwrap_or(&first)
+    let wanted: Vec<&Cell> = others.iter().filter(|&&cell| (dot(cell) != dot(first)) == differs).collect();
+    let free = wanted.iter().find(|&&&cell| !is_locked(handed, cell));
+    *free.or(wanted.first()).copied().or(others.first()).unwrap_or(&first)
+}
+
+/// Names a locked cell, if there is one, as either cell of a swap.
+fn name_locked(random: &mut Random, handed: &mut Handed) {
+    let locked: Vec<usize> = (0..handed.cells()).filter(|&at| lock(handed.gray[at], None).is_some()).collect();
+    if locked.is_empty() {
+        return;
+    }
+    let at = random.pick(&locked);
+    (handed.row, handed.col) = (at / handed.width, at % handed.width);
+    let differs = !random.one_in(3);
+    (handed.row2, handed.col2) = partner(random, handed, differs);
+    if random.one_in(3) {
+        (handed.row, handed.col, handed.row2, handed.col2) = (handed.row2, handed.col2, handed.row, handed.col);
+    }
 }
 
 /// Names cells of the plate, sometimes cells that an attempt refuses.
 pub fn name_cells(random: &mut Random, handed: &mut Handed) {
-    (handed.row, handed.col) = (random.below(handed.height), random.below(handed.width));
+    (handed.row, handed.col) = cell(random, handed);
     let differs = !random.one_in(8);
     (handed.row2, handed.col2) = partner(random, handed, differs);
+    if random.one_in(8) {
+        name_locked(random, handed);
+    }
     if random.one_in(16) {
         name_off_plate(random, handed);
     }
@@ -312,6 +381,16 @@ fn damage(random: &mut Random, call: Call, number: u32, handed: &mut Handed) {
             let at = random.below(handed.dots.len());
             handed.dots[at] = random.pick(&[2, 3, 128, 254, 255]);
         }
+        16 => {
+            handed.start = if call == Call::Start && !random.one_in(4) { 2 } else { handed.start };
+            handed.dots.iter_mut().for_each(|dot| *dot &= 1);
+            fit(handed);
+            contradict(random, handed);
+            // else 20 and 21 are due too
+            if random.one_in(2) {
+                state(random, handed);
+            }
+        }
         8 => name_off_plate(random, handed),
         9 => {
             handed.reach = handed.reach.min(random.below(3));
@@ -324,6 +403,7 @@ fn damage(random: &mut Random, call: Call, number: u32, handed: &mut Handed) {
         }
         21 => misstate(random, handed),
         22 => (handed.row2, handed.col2) = partner(random, handed, false),
+        23 => name_locked(random, handed),
         _ => {}
     }
 }

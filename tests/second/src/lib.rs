@@ -1,5 +1,5 @@
-//! A second implementation of document 01, of request C-11 and of the check of filed sheets, written from their texts
-//! and the public pages on Netpbm files alone, and what the tests need to hold the static library and the program
+//! A second implementation of document 01, of requests C-11 and C-12 and of the check of filed sheets, written from their
+//! texts and the public pages on Netpbm files alone, and what the tests need to hold the static library and the program
 //! `settle` against it.
 
 pub mod fault;

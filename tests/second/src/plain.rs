@@ -1,6 +1,6 @@
-//! The calls of document 01 save those for sheets, from its plain sums, and the judging of what any call is handed. The
-//! plate here is document 01's plain plate: it has no table. Wherever a table or a squared error is wanted, the sum is
-//! taken over the dots.
+//! The calls of document 01 save those for sheets, from its plain sums, with the locked cells of request C-12, and the
+//! judging of what any call is handed. The plate here is document 01's plain plate: it has no table. Wherever a table or a
+//! squared error is wanted, the sum is taken over the dots.
 
 use crate::fault::Fault;
 use crate::handed::{
@@ -15,8 +15,9 @@ pub const MAX_ERROR: i64 = 4_468_483_974_758_400;
 /// The largest count in a ledger.
 pub const MAX_COUNT: i64 = 1 << 44;
 
-/// The refusals because of the input save those of a sheet, then those because of the state, in their order.
-pub const ORDER: [u32; 12] = [1, 2, 3, 4, 5, 6, 7, 8, 9, 20, 21, 22];
+/// The refusals because of the input save those of a sheet, then those because of the state, in their order: 16 straight
+/// after 7, and 23 before 22.
+pub const ORDER: [u32; 14] = [1, 2, 3, 4, 5, 6, 7, 16, 8, 9, 20, 21, 23, 22];
 
 /// The second implementation, right or with one mistake.
 #[derive(Clone, Copy, Default)]
@@ -68,6 +69,17 @@ pub fn threshold(row: usize, col: usize) -> u32 {
         _ => 1,
     };
     (0..4).map(|i| d(i) * 4u32.pow(3 - i)).sum()
+}
+
+/// The dot that a locked cell has: bare paper (gray 0) is blank, lettering and outlines (gray 255) are solid. A cell of any
+/// other gray is not locked.
+pub fn lock(gray: u8, fault: Option<Fault>) -> Option<u8> {
+    match (gray, fault) {
+        (0, Some(Fault::PaperNotLocked)) | (255, Some(Fault::InkNotLocked)) => None,
+        (0, _) | (1, Some(Fault::Gray1Locked)) => Some(0),
+        (255, _) | (254, Some(Fault::Gray254Locked)) => Some(1),
+        _ => None,
+    }
 }
 
 /// The partners of a swap scan: by falling sum of squares, then smaller row offset, then smaller column offset.
@@ -129,6 +141,15 @@ impl Plate {
 
     pub fn dot(&self, cell: Cell) -> u8 {
         self.dots[self.at(cell)]
+    }
+
+    pub fn is_locked(&self, cell: Cell) -> bool {
+        lock(self.gray[self.at(cell)], self.fault).is_some()
+    }
+
+    /// Whether a scan passes a cell over because it is locked; with this mistake it does not.
+    fn passes_over(&self, cell: Cell, mistake: Fault) -> bool {
+        self.is_locked(cell) && self.fault != Some(mistake)
     }
 
     pub fn dot_total(&self) -> i64 {
@@ -295,9 +316,11 @@ impl Plate {
         change
     }
 
-    /// A toggle attempt at every cell in raster order. Answers the accepted changes.
+    /// A toggle attempt at every cell in raster order that is not locked. Answers the accepted changes.
     fn toggle_scan(&mut self) -> u64 {
-        self.all_cells().filter(|&cell| self.attempt(&[cell]) < 0).count() as u64
+        let cells = self.all_cells();
+        let accepted = |&cell: &Cell| !self.passes_over(cell, Fault::LockedToggled) && self.attempt(&[cell]) < 0;
+        cells.filter(accepted).count() as u64
     }
 
     /// The partners of this plate's reach.
@@ -311,15 +334,24 @@ impl Plate {
         offsets
     }
 
-    /// At every cell the first partner that lowers E. Answers the accepted changes.
+    /// At every cell the first partner that lowers E, neither of them locked. Answers the accepted changes.
     fn swap_scan(&mut self) -> u64 {
         let partners = self.partners();
         let mut changes = 0;
         for cell in self.all_cells() {
+            if self.passes_over(cell, Fault::LockedSwapped) {
+                continue;
+            }
             for &offset in &partners {
                 let Some(partner) = self.moved(cell, offset) else {
                     continue;
                 };
+                if self.passes_over(partner, Fault::LockedPartnerTaken) {
+                    if self.fault == Some(Fault::LockedPartnerEndsCell) {
+                        break;
+                    }
+                    continue;
+                }
                 if self.dot(partner) == self.dot(cell) || self.attempt(&[cell, partner]) >= 0 {
                     continue;
                 }
@@ -362,8 +394,9 @@ impl Plate {
         self.all_cells().map(change).collect()
     }
 
-    /// Whether no toggle and no swap within reach lowers E. Each pair of cells is tried once, from its first cell. A
-    /// swap of unlike dots adds what its toggles add, less 2 * 255^2 * c: both spread to some cells, with unlike signs.
+    /// Whether no toggle and no swap within reach lowers E, of cells that are not locked. Each pair of cells is tried once,
+    /// from its first cell. A swap of unlike dots adds what its toggles add, less 2 * 255^2 * c: both spread to some cells,
+    /// with unlike signs.
     pub fn rests(&self) -> bool {
         let reach = match self.fault {
             Some(Fault::TogglesOnly) => 0,
@@ -379,27 +412,32 @@ impl Plate {
                 return true;
             };
             let change = changes[self.at(cell)] + changes[self.at(partner)] - overlap;
-            self.dot(partner) == self.dot(cell) || change >= least
+            let locked = [cell, partner].iter().any(|&cell| self.passes_over(cell, Fault::LockedSwapsDisturb));
+            locked || self.dot(partner) == self.dot(cell) || change >= least
         };
-        changes.iter().all(|&change| change >= least)
+        let toggle_rests =
+            |cell| self.passes_over(cell, Fault::LockedTogglesDisturb) || changes[self.at(cell)] >= least;
+        self.all_cells().all(toggle_rests)
             && self.all_cells().all(|cell| partners.iter().all(|&partner| swap_rests(cell, partner)))
     }
 
-    /// The same by the whole sums: every toggle and every swap of unlike dots within reach made on a copy.
+    /// The same by the whole sums: every toggle and every swap of unlike dots within reach made on a copy, save where a cell
+    /// is locked.
     pub fn rests_by_whole_sums(&self) -> bool {
         let near = |a: Cell, b: Cell| a.0.abs_diff(b.0) <= self.reach && a.1.abs_diff(b.1) <= self.reach;
         let is_swap = |a, b| near(a, b) && self.dot(a) != self.dot(b);
         let lowers = |cells: &[Cell]| self.change_of_whole_sum(cells) < 0;
-        let swap_lowers = |a| self.all_cells().any(|b| is_swap(a, b) && lowers(&[a, b]));
-        !self.all_cells().any(|cell| lowers(&[cell]) || swap_lowers(cell))
+        let free = || self.all_cells().filter(|&cell| !self.is_locked(cell));
+        let swap_lowers = |a| free().any(|b| is_swap(a, b) && lowers(&[a, b]));
+        !free().any(|cell| lowers(&[cell]) || swap_lowers(cell))
     }
 
-    /// Whether 2T is at least -255P at every blank and at most 255P at every dot.
+    /// Whether 2T is at least -255P at every blank and at most 255P at every dot that is not locked.
     pub fn within_half_peak(&self) -> bool {
-        let c = self.c();
+        let (table, c) = (self.filtered_error(), self.c());
         let peak = c[c.len() / 2];
-        let outward = |(&dot, t): (&u8, i64)| if dot == 0 { -2 * t } else { 2 * t };
-        self.dots.iter().zip(self.filtered_error()).map(outward).all(|double| double <= 255 * peak)
+        let outward = |cell| 2 * table[self.at(cell)] * if self.dot(cell) == 0 { -1 } else { 1 };
+        self.all_cells().all(|cell| self.is_locked(cell) || outward(cell) <= 255 * peak)
     }
 
     /// What a toggle or swap adds to E by document 01's formulas, here only for a comparison with the sums.
@@ -444,11 +482,20 @@ impl Second {
     pub fn judge(&self, call: Call, handed: &Handed) -> Result<(), u32> {
         refuse(5, !self.has(Fault::MeasuresJudgedLate) && self.other_count(call, handed))?;
         let mut order = ORDER;
-        if let Some(Fault::Exchanged(at)) = self.fault {
-            order.swap(at, at + 1);
+        match self.fault {
+            Some(Fault::Exchanged(at)) => order.swap(at, at + 1),
+            Some(Fault::CellsBeforeLocks) => order[7..10].rotate_left(1),
+            Some(Fault::LockBeforeState) => order[10..13].rotate_right(1),
+            _ => {}
         }
-        let mut judged = order.into_iter().filter(|number| call.refusals().contains(number));
+        let mut judged = order.into_iter().filter(|&number| self.is_judged(number, call));
         judged.try_for_each(|number| refuse(number, self.draws(number, call, handed)))
+    }
+
+    /// Whether a number is one of a call's own.
+    fn is_judged(&self, number: u32, call: Call) -> bool {
+        let with_dots = number == 16 && self.has(Fault::LocksJudgedWithDots);
+        call.refusals().contains(if with_dots { &7 } else { &number })
     }
 
     /// Whether a call draws this number, one of its own, none of those before it being drawn.
@@ -461,10 +508,12 @@ impl Second {
             5 => self.other_count(call, handed) || other_length(call, handed),
             6 => self.sum_outside(&handed.psf),
             7 => self.judges_dots(call, handed) && handed.dots.iter().any(|&dot| dot > 1),
+            16 => self.judges_locks(call, handed) && self.contradicts(handed),
             8 => call.named(handed).iter().any(|&(row, col)| row >= handed.height || col >= handed.width),
             9 => self.beyond_reach(handed),
             20 => self.table_differs(handed),
             21 => self.ledger_differs(&Plate::new(handed, self.fault), &handed.stats),
+            23 => self.names_locked(call, handed),
             _ => equal_dots(handed),
         }
     }
@@ -495,6 +544,35 @@ impl Second {
     /// A start judges the dots where it takes them.
     fn judges_dots(&self, call: Call, handed: &Handed) -> bool {
         call != Call::Start || handed.start == 2 || self.has(Fault::DotsAlwaysJudged)
+    }
+
+    /// Locks are judged with the dots given: by a start where it takes them, by a later call whatever its kind.
+    fn judges_locks(&self, call: Call, handed: &Handed) -> bool {
+        match self.fault {
+            Some(Fault::LocksNotJudgedAtStart) => call != Call::Start,
+            Some(Fault::LocksJudgedAtAnyStart) => true,
+            Some(Fault::LocksNotJudgedLater) => call == Call::Start && handed.start == 2,
+            Some(Fault::LocksJudgedByKind) => handed.start == 2,
+            _ => call != Call::Start || handed.start == 2,
+        }
+    }
+
+    /// 16: dots that contradict a locked cell.
+    pub fn contradicts(&self, handed: &Handed) -> bool {
+        let contradicts = |(&gray, &dot)| lock(gray, self.fault).is_some_and(|locked| dot != locked);
+        handed.gray.iter().zip(&handed.dots).any(contradicts)
+    }
+
+    /// 23: an attempt naming a locked cell.
+    fn names_locked(&self, call: Call, handed: &Handed) -> bool {
+        let locked = |&(row, col): &Cell| lock(handed.gray[row * handed.width + col], self.fault).is_some();
+        let cells = call.named(handed);
+        match self.fault {
+            Some(Fault::FirstLockNotJudged) => cells[1..].iter().any(locked),
+            Some(Fault::SecondLockNotJudged) => locked(&cells[0]),
+            Some(Fault::BothLocksNeeded) => cells.iter().all(locked),
+            _ => cells.iter().any(locked),
+        }
     }
 
     /// 9: swap of a cell with itself or with a row or column offset beyond the reach.
@@ -544,11 +622,12 @@ impl Second {
         }
     }
 
-    /// A start writes dots, table and a fresh ledger with counts 0.
+    /// A start writes dots, table and a fresh ledger with counts 0. Kind 0 leaves all blank that is not locked solid; with
+    /// kind 1 the thresholds set locked cells as they have to be.
     fn start(&self, handed: &mut Handed) {
         let cells = (0..handed.cells()).map(|at| (at / handed.width, at % handed.width));
         match handed.start {
-            0 => handed.dots.fill(0),
+            0 => handed.dots = handed.gray.iter().map(|&gray| self.cleared(gray)).collect(),
             1 => {
                 handed.dots = cells.zip(&handed.gray).map(|(cell, &gray)| u8::from(self.screened(cell, gray))).collect()
             }
@@ -560,8 +639,13 @@ impl Second {
         handed.table = narrow(plate.filtered_error());
     }
 
+    /// What kind 0 makes of a cell.
+    fn cleared(&self, gray: u8) -> u8 {
+        lock(gray, self.fault).filter(|_| !self.has(Fault::InkStartsBlank)).unwrap_or(0)
+    }
+
     /// A cell gets a dot exactly when 256 * gray > 255 * threshold.
-    fn screened(&self, (row, col): Cell, gray: u8) -> bool {
+    pub fn screened(&self, (row, col): Cell, gray: u8) -> bool {
         let (row, col) = if self.has(Fault::ThresholdTransposed) { (col, row) } else { (row, col) };
         let limit = 255 * threshold(row % 16, col % 16);
         256 * u32::from(gray) + u32::from(self.has(Fault::ThresholdReached)) > limit

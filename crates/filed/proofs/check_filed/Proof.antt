@@ -24,7 +24,7 @@ use Rattle.model.specs.FiledCalls.{verdictOf, checkBuffers}
 use Rattle.model.proofs.Calls.{ends-as}
 use Rattle.filed.specs.Front.{frontOf}
 use Rattle.filed.proofs.Reading.{head-refused, in-range, no-room, below-refused}
-use Rattle.filed.proofs.Whole.{Whole, roomy, table-long, blocks-good, figures-few, sum-refused}
+use Rattle.filed.proofs.Whole.{Whole, roomy, table-long, blocks-good, is-given, figures-few, sum-refused}
 use Rattle.filed.proofs.Whole.{plate, in-fronts, checked}
 use Rattle.filed.proofs.check_filed.Statement.{statement}
 use Rattle.filed.proofs.check_filed.Tie as tie
@@ -183,7 +183,7 @@ judge-front-requires c κs =
     let k : tie.After-store-body = search in
     let m = h (b (r (w k))) .measures in
     let good = whole (w k) in (
-      (range (read (r (w k))), table-long good, figures-few good),
+      (range (read (r (w k))), is-given good, table-long good, figures-few good),
       subst (λ x. PlateFits m (x .psf) (x .gray) (x .dots) (cellsOf m)) (sym (stands k))
           (plate good (low (v k)) (high (v k))),
     )

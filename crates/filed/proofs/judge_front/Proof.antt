@@ -50,7 +50,7 @@ module _ (c : tie.After-cells) where
   }
 
   table-long : length (take (cellsOf (s .args .m)) (s .args .table .now)) ≡ cellsOf (s .args .m)
-  table-long = length-take-le (cellsOf (s .args .m)) (s .args .table .now) (s .pre .0 .1)
+  table-long = length-take-le (cellsOf (s .args .m)) (s .args .table .now) (s .pre .0 .2)
 
 slice-aggregate-judge-plate : tie.Need-slice-aggregate-judge-plate
 slice-aggregate-judge-plate c =
@@ -81,7 +81,7 @@ judge-plate-requires c κs =
     let long : cellsOf (s k .args .m) ≡ length (take (k .cells .result) (s k .args .table .now)) =
     sym (cells-are k) ∙ part-long _ (cells-are k) (table-long k) in
     let Fits : Sheet → ℕ → Type 0 = λ x. PlateFits (x .measures) (x .psf) (x .gray) (x .dots) in
-    (subst (λ (X : Type 0). X) (λ i. Fits (sym (lent-is k) i) (long i)) (s k .pre .1), s k .pre .0 .2)
+    (subst (λ (X : Type 0). X) (λ i. Fits (sym (lent-is k) i) (long i)) (s k .pre .1), (s k .pre .0 .3, s k .pre .0 .1))
 
 same-length : tie.Need-same-length
 same-length c = search needs
@@ -93,7 +93,7 @@ returns c =
       j .judge-plate .ensures .0 ∙ ap (λ x. verdictOf x (s k .args .f)) (lent-is k),
       put-front (s k .args .table .now) (cells-are k)
           (j .judge-plate .ensures .1 ∙ ap (λ x. filteredErrors (sheetTarget x) (x .dots)) (lent-is k))
-          (filtered-long _ _) (s k .pre .0 .1),
+          (filtered-long _ _) (s k .pre .0 .2),
     )
 
 pub judge-front-spec : {M : Type 1} → statement M

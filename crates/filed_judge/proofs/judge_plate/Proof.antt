@@ -36,13 +36,13 @@ module _ (k : tie.After-filter-and-square) where
   measured = measured-by (s .pre .0) (k .filter-and-square .ensures .0) (read ∙ k .filter-and-square .ensures .1)
 
   filed-is : toZ w64 (s .args .f .after) ≡ pos (s .args .f .after)
-  filed-is = of-cast w64 (s .args .f .after) (s .pre .1 .each 1) (lit< tt) .value
+  filed-is = of-cast w64 (s .args .f .after) (s .pre .1 .0 .each 1) (lit< tt) .value
 
 ledger-fits-requires : tie.Need-ledger-fits-requires
-ledger-fits-requires c κs = let k : tie.After-filter-and-square = search in (measured k, s k .pre .1)
+ledger-fits-requires c κs = let k : tie.After-filter-and-square = search in (measured k, s k .pre .1 .0)
 
 resting-requires : tie.Need-resting-requires
-resting-requires c κs = let k : tie.After-filter-and-square = search in measured k
+resting-requires c κs = let k : tie.After-filter-and-square = search in (measured k, s k .pre .1 .1)
 
 same-length : tie.Need-same-length
 same-length c = search needs
@@ -67,7 +67,7 @@ returns c =
     )
 
 cast-filed : tie.Need-cast-filed
-cast-filed c = let s : tie.Start = search in record { sfits = omega (arith, s .pre .1 .each 1) }
+cast-filed c = let s : tie.Start = search in record { sfits = omega (arith, s .pre .1 .0 .each 1) }
 
 pub judge-plate-spec : {M : Type 1} → statement M
 judge-plate-spec =

@@ -12,13 +12,13 @@ use Rattle.model.specs.FiledCalls.{rests}
 use Rattle.model.proofs.Basic.{part-whole}
 use Rattle.model.proofs.Halftone.{few-cells}
 use Rattle.slices.proofs.Fronts.{again-fits, again-whole, again-is}
-use Rattle.filed_rest.specs.Measured.{Measured}
+use Rattle.filed_rest.specs.Measured.{Startable}
 use Rattle.filed_rest.proofs.at_rest.Statement.{statement}
 use Rattle.filed_rest.proofs.at_rest.Tie as tie
 
 -- the cells of a plate fit into each of the arrays
 few : (s : tie.Start) → length (s .args .dots .now) ≤ mostCells
-few s = let f = s .pre .plate .halftone in omega (arith, few-cells f, f .dots-length)
+few s = let f = s .pre .measured .plate .halftone in omega (arith, few-cells f, f .dots-length)
 
 array-borrow-prefix-some-dots : tie.Need-array-borrow-prefix-some-dots
 array-borrow-prefix-some-dots c = few search
@@ -38,7 +38,7 @@ slice-aggregate-copy-numbers c = part-whole _ _ (few search)
 copy-numbers-requires : tie.Need-copy-numbers-requires
 copy-numbers-requires c κs =
     let s : tie.Start = search in
-    let f = s .pre .plate .halftone in
+    let f = s .pre .measured .plate .halftone in
     sym (part-whole _ _ (few s)) ∙ f .dots-length ∙ sym (f .table-length)
 
 -- the arrays at first
@@ -102,7 +102,7 @@ scans-clear-requires c κs =
     let a = s (b k) .args in
     let back = read-back w64 (a .squared) (s (b k) .fits .squared .sfits) in
     subst (λ (X : Type 0). X)
-    (λ i. Measured (a .m) (a .psf .now) (a .gray .now) (sym (dots-are (b k)) i) (sym (table-is k) i) (sym back i))
+    (λ i. Startable (a .m) (a .psf .now) (a .gray .now) (sym (dots-are (b k)) i) (sym (table-is k) i) (sym back i))
     (s (b k) .pre)
 
 returns : tie.Need-returns

@@ -14,12 +14,12 @@ use Rattle.filed_rest.proofs.scans_clear.Statement.{statement}
 use Rattle.filed_rest.proofs.scans_clear.Tie as tie
 
 kernel-requires : tie.Need-kernel-requires
-kernel-requires c κs = let s : tie.Start = search in s .pre .plate .halftone .psf-fits
+kernel-requires c κs = let s : tie.Start = search in s .pre .measured .plate .halftone .psf-fits
 
 fresh-requires : tie.Need-fresh-requires
 fresh-requires c κs =
     let s : tie.Start = search in
-    let f = s .pre .plate .halftone in omega (arith, few-cells f, f .dots-length)
+    let f = s .pre .measured .plate .halftone in omega (arith, few-cells f, f .dots-length)
 
 slice-aggregate-toggle-all : tie.Need-slice-aggregate-toggle-all
 slice-aggregate-toggle-all c = search needs
@@ -34,7 +34,7 @@ module _ (f : tie.After-fresh) where
 
   made : f .fresh .result
       ≡ freshStats (targetFor (s .args .m) (s .args .psf .now) (s .args .gray .now)) (s .args .dots .now)
-  made = f .fresh .ensures _ (read-back w64 (s .args .squared) (s .fits .squared .sfits) ∙ s .pre .squared-is)
+  made = f .fresh .ensures _ (read-back w64 (s .args .squared) (s .fits .squared .sfits) ∙ s .pre .measured .squared-is)
 
   ready : Ready (s .args .m) (s .args .psf .now) (s .args .gray .now) (k .kernel .result) (s .args .dots .now)
       (s .args .table .now) (f .fresh .result)

@@ -39,7 +39,8 @@ module _ (e : tie.Else1) where
       × ((s .args .at .row < s .args .measures .height) × (s .args .at .col < s .args .measures .width))
       × ((s .args .to .row < s .args .measures .height) × (s .args .to .col < s .args .measures .width))
       × Unlike (s .args .measures) (s .args .dots .now) (s .args .at) (s .args .to)
-  enters = swap-enters _ _ _ _ _ _ _ _ _ _ taken
+  enters =
+      let (fits, one, other, _, unlike) = swap-enters _ _ _ _ _ _ _ _ _ _ taken in (fits, one, other, unlike)
 
 kernel-requires : tie.Need-kernel-requires
 kernel-requires c κs = let e : tie.Else1 = search in enters e .0 .plate .halftone .psf-fits

@@ -34,8 +34,8 @@ module _ (e : tie.Else1) where
 
   enters : LaterFits (s .args .measures) (s .args .psf .now) (s .args .gray .now) (s .args .dots .now)
       (s .args .table .now) (s .args .stats)
-      × (s .args .at .row < s .args .measures .height) × (s .args .at .col < s .args .measures .width)
-  enters = toggle-enters _ _ _ _ _ _ _ _ taken
+      × ((s .args .at .row < s .args .measures .height) × (s .args .at .col < s .args .measures .width))
+  enters = let (fits, on, _) = toggle-enters _ _ _ _ _ _ _ _ taken in (fits, on)
 
 kernel-requires : tie.Need-kernel-requires
 kernel-requires c κs = let e : tie.Else1 = search in enters e .0 .plate .halftone .psf-fits
@@ -48,9 +48,9 @@ toggle-requires c κs =
     let e : tie.Else1 = search in
     let k : tie.After-kernel = search in
     let known : tie.After-shared-slice-known2 = search in
-    let (fits, row, col) = enters e in (
+    let (fits, on) = enters e in (
       record { later = fits; kernel = k .kernel .ensures; bytes = slice-bytes (known .shared-slice-known2 .given) },
-      record { row-below = row; col-below = col },
+      record { row-below = on .0; col-below = on .1 },
     )
 
 same-length-3 : tie.Need-same-length-3

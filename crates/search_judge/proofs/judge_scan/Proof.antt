@@ -1,4 +1,4 @@
--- `search_judge::judge_scan` meets its contract: 1 to 7, then 20 and 21, each part with a judge of its own.
+-- `search_judge::judge_scan` meets its contract: 1 to 7 and 16, then 20 and 21, each part with a judge of its own.
 use mathlib.Core.Path.{refl}
 use borrow.Author.Needs.{needs}
 use Rattle.model.specs.State.{noCell, laterRefusal}

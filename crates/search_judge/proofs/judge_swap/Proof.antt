@@ -1,15 +1,17 @@
--- `search_judge::judge_swap` meets its contract: 1 to 7, then 8 and 9, then 20, 21 and 22, each part with a judge of
--- its own.
-use mathlib.Core.List.{[], _∷_}
+-- `search_judge::judge_swap` meets its contract: 1 to 7 and 16, then 8 and 9, then 20 and 21, then 23 and 22, each part
+-- with a judge of its own.
+use mathlib.Core.List.{List, [], _∷_}
 use mathlib.Core.Path.{_≡_}
-use Prim.Native.Nat.{_<_}
+use Prim.Native.Nat.{ℕ, _*_, _<_}
 use borrow.Author.Needs.{needs}
 use native.Mathlib.Omega.{arith}
 use Rattle.algebra.proofs.Grid.{cell<}
+use Rattle.model.specs.Error.{cellAt}
 use Rattle.model.specs.Refusal.{firstOf, badCells, badPair}
 use Rattle.model.specs.Ledger.{wrongStats}
-use Rattle.model.specs.State.{Asked, swapAsked, badTable, swapRefusal}
+use Rattle.model.specs.State.{Asked, swapAsked, badTable, badLockedPair, badLike, swapRefusal}
 use Rattle.model.proofs.Refusal.{none}
+use Rattle.invariants.specs.Refusal.{either}
 use Rattle.invariants.proofs.Refusal.{by-either}
 use Rattle.model.proofs.Later.{cells-inside}
 use Rattle.search_judge.proofs.Lists.{Later, Fits, state, input-fits, by-input, by-named, by-rest}
@@ -29,7 +31,7 @@ handed s = record {
 
 abbrev asked : tie.Start → Asked
 asked s =
-    swapAsked (s .args .measures) (s .args .dots .now)
+    swapAsked (s .args .measures) (s .args .gray .now) (s .args .dots .now)
     (s .args .at .row) (s .args .at .col) (s .args .to .row) (s .args .to .col)
 
 judge-later-requires : tie.Need-judge-later-requires
@@ -75,7 +77,7 @@ returns-2 c =
     by-named (handed (s n)) (asked (s n)) (input .before .judge-later .ensures) (input .if1 .left) tt
     (named-is n) (c .if2 .taken)
 
--- once 1 to 9 are judged the plate fits, and the cells are on it
+-- once 1 to 9 and 16 are judged the plate fits, and the cells are on it
 module _ (c : tie.Else2) where
   passed : tie.Else1
   passed = search
@@ -90,6 +92,10 @@ module _ (c : tie.Else2) where
   on =
       let n = c .before in
       cells-inside _ _ (s n .args .measures .reach) _ _ _ _ (none (asked (s n) .named) tt (named-is n) (c .if2 .left))
+
+-- so its place is one of a slice as long as the cells
+within : {w h row col m k : ℕ} → k ≡ h * w → (row < h) × (col < w) → m ≡ cellAt w row col → m < k
+within long on is = rw (is, long) (cell< (on .0) (on .1))
 
 judge-state-requires : tie.Need-judge-state-requires
 unfolding s
@@ -110,18 +116,34 @@ index-requires-2 c κs =
     let o = on e .1 in
     (omega (arith, f .high .1, o .0), o .1, f .wide .1)
 
+judge-free-pair-requires : tie.Need-judge-free-pair-requires
+unfolding s
+judge-free-pair-requires c κs =
+    let e : tie.Else2 = search in
+    let long = fits e .gray-length in
+    (within long (on e .0) (c .before .index .ensures), within long (on e .1) (c .index2 .ensures))
+
 judge-like-requires : tie.Need-judge-like-requires
 unfolding s
 judge-like-requires c κs =
     let e : tie.Else2 = search in
-    let f = fits e in
-    let (one, other) = on e in (
-      rw (c .before .index .ensures, f .dots-length) (cell< (one .0) (one .1)),
-      rw (c .index2 .ensures, f .dots-length) (cell< (other .0) (other .1)),
-    )
+    let one : tie.After-index = search in
+    let other : tie.After-index2 = search in
+    let long = fits e .dots-length in
+    (within long (on e .0) (one .index .ensures), within long (on e .1) (other .index2 .ensures))
 
 first-requires-2 : tie.Need-first-requires-2
 first-requires-2 c κs = search needs
+
+-- 23 and 22 together, judged by the places m and n of the cells
+last-is : (gray dots : List ℕ) {m n a b x y z : ℕ} → m ≡ a → n ≡ b
+    → x ≡ firstOf (badLockedPair gray m n ∷ []) → y ≡ firstOf (badLike dots m n ∷ []) → z ≡ either x y
+    → z ≡ firstOf (badLockedPair gray a b ∷ badLike dots a b ∷ [])
+last-is gray dots {a = a} {b = b} d e f g h =
+    by-either (badLockedPair gray a b ∷ []) (badLike dots a b ∷ []) tt (rw (d, e) at f) (rw (d, e) at g) h
+
+first-requires-3 : tie.Need-first-requires-3
+first-requires-3 c κs = search needs
 
 returns-3 : tie.Need-returns-3
 unfolding swapRefusal badTable wrongStats s
@@ -131,11 +153,15 @@ returns-3 c =
     let judged : tie.After-judge-state = search in
     let one : tie.After-index = search in
     let other : tie.After-index2 = search in
+    let free : tie.After-judge-free-pair = search in
+    let like : tie.After-judge-like = search in
     let n = named .before in
-    by-rest (handed (s n)) (asked (s n)) (input .before .judge-later .ensures) (input .if1 .left) tt
+    let h = handed (s n) in
+    by-rest h (asked (s n)) (input .before .judge-later .ensures) (input .if1 .left) tt
     (named-is n) (named .if2 .left)
-    (by-either (state (handed (s n))) (asked (s n) .last) tt (judged .judge-state .ensures)
-    (rw (one .index .ensures, other .index2 .ensures) at (c .before .judge-like .ensures)) (c .first2 .ensures))
+    (by-either (state h) (asked (s n) .last) tt (judged .judge-state .ensures)
+    (last-is (h .gray) (h .dots) (one .index .ensures) (other .index2 .ensures)
+    (free .judge-free-pair .ensures) (like .judge-like .ensures) (c .before .first2 .ensures)) (c .first3 .ensures))
 
 pub judge-swap-spec : {M : Type 1} → statement M
 judge-swap-spec =
@@ -150,6 +176,8 @@ judge-swap-spec =
     judge-state-requires
     index-requires
     index-requires-2
+    judge-free-pair-requires
     judge-like-requires
     first-requires-2
+    first-requires-3
     returns-3)

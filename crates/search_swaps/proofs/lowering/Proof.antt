@@ -1,5 +1,5 @@
--- `search_swaps::lowering` meets its contract: off the plate no swap suits, and on it the test by the table is that of the
--- reference.
+-- `search_swaps::lowering` meets its contract: off the plate no swap suits, and on it the test by the table and by the
+-- locks is that of the reference.
 use mathlib.Core.Bool.{Bool, true, false}
 use mathlib.Core.Path.{_≡_, refl, sym, _∙_, ap, subst}
 use Prim.Native.Nat.{ℕ, _≤_, _<_}
@@ -13,7 +13,7 @@ use Rattle.algebra.proofs.Machine.{Holds, of-small, size-of}
 use Rattle.model.specs.Partners.{lands, partner}
 use Rattle.invariants.specs.Partners.{rowOf, columnOf, offsetOf}
 use Rattle.invariants.specs.Plate.{Judged, OnPlate, cellOf}
-use Rattle.invariants.specs.Trials.{lowersBy}
+use Rattle.invariants.specs.Trials.{takesBy}
 use Rattle.invariants.specs.Window.{mostWorth}
 use Rattle.invariants.proofs.Partners.{worth-small}
 use Rattle.invariants.proofs.Plate.{place-fits, on-dots, judged-small}
@@ -76,8 +76,8 @@ returns : tie.Need-returns
 returns c =
     let a : tie.After-partner-cell = search in rw (off a (omega (arith, c .if1 .taken))) refl
 
-lower-swap-requires : tie.Need-lower-swap-requires
-lower-swap-requires c κs =
+takes-swap-requires : tie.Need-takes-swap-requires
+takes-swap-requires c κs =
     let s : tie.Start = search in
     let i : tie.After-index = search in
     let f = judged s .plate .halftone in (
@@ -86,7 +86,7 @@ lower-swap-requires c κs =
         omega (arith, c .if1 .left, f .dots-length, f .table-length),
         f .table-length ∙ sym (f .dots-length),
       ),
-      (judged-small (judged s), size-of (worth-held s)),
+      (f .gray-length ∙ sym (f .dots-length), judged-small (judged s), size-of (worth-held s)),
     )
 
 returns-2 : tie.Need-returns-2
@@ -98,10 +98,10 @@ returns-2 c =
     let (lands, is-there) = there a (omega (arith, else .if1 .left)) in
     trial-is (judged s) (on s) (rowOf (s .args .code)) (columnOf (s .args .code)) lands is-there
     (worth-held s .value ∙ s .pre .1)
-    (c .lower-swap .ensures
-    ∙ ap (λ k. lowersBy (s .args .dots .now) (s .args .table .now) k (a .partner-cell .result)
+    (c .takes-swap .ensures
+    ∙ ap (λ k. takesBy (s .args .gray .now) (s .args .dots .now) (s .args .table .now) k (a .partner-cell .result)
     (toZ w32 (ofZ w32 (s .args .worth)))) (i .index .ensures))
 
 pub lowering-spec : {M : Type 1} → statement M
 lowering-spec =
-    tie.close (tie.spec index-requires partner-cell-requires returns lower-swap-requires returns-2)
+    tie.close (tie.spec index-requires partner-cell-requires returns takes-swap-requires returns-2)

@@ -1,31 +1,33 @@
 -- `search_swaps::swap_by` meets its contract: at each cell the partners are tried in order, and the first that lowers E
 -- is the one that a scan accepts there.
 use mathlib.Core.Bool.{true}
+use mathlib.Core.List.{List}
 use mathlib.Core.Logic.{_⊎_, inl, inr}
 use mathlib.Core.Path.{_≡_, sym, _∙_, ap, subst}
 use Prim.Native.Nat.{ℕ, _*_, _-_, _^_, _≤_, _<_}
 use native.Mathlib.Omega.{arith}
-use borrow.Author.Needs.{needs}
 use lib.Dec.{lit<}
-use lib.IntN.{pos}
+use lib.IntN.{ℤ, pos}
 use lib.ListN.{length, getD}
 use mir.Syntax.{w32}
 use mir.Val.{toZ, ofZ}
 use Rattle.algebra.proofs.Machine.{of-small}
 use Rattle.algebra.proofs.Grid.{cell<}
+use Rattle.model.specs.declared.Progress.{Progress}
 use Rattle.model.specs.Error.{Target, targetFor}
 use Rattle.model.specs.Reference.{reference}
 use Rattle.model.specs.Scan.{swaps}
 use Rattle.model.proofs.Scan.{Lawful, swaps-lawful}
 use Rattle.model.proofs.Attempts.{Sound, entry-sound}
 use Rattle.invariants.specs.Partners.{rowOf, columnOf, offsetOf, worthAt, HoldsOffsets, HoldsWorths}
-use Rattle.invariants.specs.Plate.{Judged, Ready, OnPlate, cellOf}
-use Rattle.invariants.specs.Trials.{visit, swapsAfter, lowersAt, Failed}
+use Rattle.invariants.specs.Plate.{Judged, Ready, OnPlate, cellOf, Leaves}
+use Rattle.invariants.specs.Trials.{sweepOf, performed, visit, swapsAfter, lowersAt, Failed}
+use Rattle.invariants.proofs.Loop.{left-none}
 use Rattle.invariants.proofs.Partners.{worths-small}
 use Rattle.invariants.proofs.Plate.{ready-judged, place-fits}
 use Rattle.invariants.proofs.Trials.{all-failed, failed-next, failed-still}
 use Rattle.invariants.proofs.Scanning.{Scanning, scanning-start, scanning-fits, scanning-few, scanning-here}
-use Rattle.invariants.proofs.Scanning.{scanning-next, scanning-ahead, scanning-end}
+use Rattle.invariants.proofs.Scanning.{visit-none, scanning-next, scanning-ahead, scanning-end}
 use Rattle.search_swaps.proofs.swap_by.Statement.{statement}
 use Rattle.search_swaps.proofs.swap_by.Tie as tie
 
@@ -236,26 +238,51 @@ module _ (j : tie.Joined3 Inv-partners μ-partners Inv-loop μ-loop) where
 
 swap-cell-requires : tie.Need-swap-cell-requires Inv-partners μ-partners Inv-loop μ-loop
 swap-cell-requires c κs =
+    let some : tie.Then5 Inv-partners μ-partners Inv-loop μ-loop = search in
     let j : tie.Joined3 Inv-partners μ-partners Inv-loop μ-loop = search in
     let l = l3 j in
-    (ready l, ((here (v3 j), scanning-few (l .loop .inv) (lawful l) (sound l), held l), ends j .0))
+    let short = some .if5 .taken in
+    (ready l, ((here (v3 j), scanning-few (l .loop .inv) (lawful l) (sound l), held l), (short, ends j .0 short)))
+
+-- what is left of the cell: what the swap leaves, or all as it was
+module _ (g : tie.Joined5 Inv-partners μ-partners Inv-loop μ-loop) where
+  abbrev j : tie.Joined3 Inv-partners μ-partners Inv-loop μ-loop
+  j = search
+
+  abbrev l5 : AtCell
+  l5 = l3 j
+
+  abbrev Left : Progress → List ℕ → List ℤ → Type 0
+  Left =
+      Leaves (t l5) (performed (t l5) (visit (t l5) (swapsAfter (t l5) (s l5 .args .measures .reach) (j .if3 .found))
+      (l5 .loop .dots) (l5 .loop .progress) (m l5)))
+
+  left : Left (g .if5 .progress) (g .if5 .dots) (g .if5 .table)
+  left =
+      either (g .if5 .came)
+      (λ w. moved (w .9) (w .7) (w .8) (w .3 .ensures))
+      (λ w. moved (w .3) (w .1) (w .2)
+      (visit-none (ready l5 .later)
+      (left-none (t l5) (s l5 .args .measures .reach) (sweepOf (l5 .loop .dots) (l5 .loop .progress)) (m l5)
+      (j .if3 .found) (omega (arith, w .0 .left, held l5 .long)))))
+    where
+      moved : {r r′ : Progress} {d d′ : List ℕ} {e e′ : List ℤ} → r′ ≡ r → d′ ≡ d → e′ ≡ e → Left r d e → Left r′ d′ e′
+      moved p q u = subst (λ (X : Type 0). X) (λ i. Left (sym p i) (sym q i) (sym u i))
 
 next-requires : tie.Need-next-requires Inv-partners μ-partners Inv-loop μ-loop
-next-requires c κs =
-    let j : tie.Joined3 Inv-partners μ-partners Inv-loop μ-loop = search in place-fits (judged (v3 j) .0) (here (v3 j))
+next-requires c κs = place-fits (judged (v3 (j c)) .0) (here (v3 (j c)))
 
 loop-less-2 : tie.Need-loop-less-2 Inv-partners μ-partners Inv-loop μ-loop
 loop-less-2 c =
-    let j : tie.Joined3 Inv-partners μ-partners Inv-loop μ-loop = search in
-    omega (arith, c .next .ensures .0, is-a-cell (v3 j))
+    let g : tie.Joined5 Inv-partners μ-partners Inv-loop μ-loop = search in
+    omega (arith, c .next .ensures .0, is-a-cell (v3 (j g)))
 
 loop-again-2 : tie.Need-loop-again-2 Inv-partners μ-partners Inv-loop μ-loop
 loop-again-2 c =
-    let done : tie.After-swap-cell Inv-partners μ-partners Inv-loop μ-loop = search in
-    let j : tie.Joined3 Inv-partners μ-partners Inv-loop μ-loop = search in
-    let l = l3 j in
-    scanning-next (l .loop .inv) (lawful l) (sound l) (here (v3 j)) (c .next .ensures .1) (c .next .ensures .0)
-    (all j) (done .swap-cell .ensures)
+    let g : tie.Joined5 Inv-partners μ-partners Inv-loop μ-loop = search in
+    let l = l5 g in
+    scanning-next (l .loop .inv) (lawful l) (sound l) (here (v3 (j g))) (c .next .ensures .1) (c .next .ensures .0)
+    (all (j g)) (left g)
 
 same-length : tie.Need-same-length Inv-partners μ-partners Inv-loop μ-loop
 same-length c =

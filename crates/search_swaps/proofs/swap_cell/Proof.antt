@@ -1,6 +1,6 @@
 -- `search_swaps::swap_cell` meets its contract: the partner found stands on the plate, its dot unlike, and the swap with
 -- it is the one that a scan accepts there.
-use mathlib.Core.Bool.{true, false, true≢false, and-eq-true-iff}
+use mathlib.Core.Bool.{true, true≢false, and-eq-true-iff}
 use mathlib.Core.Path.{_≡_, sym, _∙_, ap, subst}
 use Prim.Native.Nat.{ℕ, _+_, _-_, _≤_, _<_}
 use native.Mathlib.Omega.{arith}
@@ -12,14 +12,14 @@ use Rattle.model.specs.Error.{Target, targetFor}
 use Rattle.model.specs.Partners.{lands, partner}
 use Rattle.model.specs.Scan.{suits}
 use Rattle.model.proofs.Attempts.{entry-stats}
+use Rattle.model.proofs.Scan.{Suited, suits-so}
 use Rattle.invariants.specs.Partners.{rowOf, columnOf, offsetOf, HoldsOffsets}
 use Rattle.invariants.specs.Plate.{OnPlate, cellOf, Unlike, cellSwap}
-use Rattle.invariants.specs.Trials.{sweepOf, visit, lowersAt}
-use Rattle.invariants.proofs.Loop.{left-none}
+use Rattle.invariants.specs.Trials.{lowersAt}
 use Rattle.invariants.proofs.Plate.{ready-judged}
-use Rattle.invariants.proofs.Scanning.{visit-none, attempt-advances}
+use Rattle.invariants.proofs.Scanning.{attempt-advances}
 use Rattle.invariants.proofs.Trials.{swap-taken}
-use Rattle.search_swaps.proofs.Partner.{landed, stands, partner-on, suits-lands, suits-unlike}
+use Rattle.search_swaps.proofs.Partner.{landed, stands, partner-on}
 use Rattle.search_swaps.proofs.swap_cell.Statement.{statement}
 use Rattle.search_swaps.proofs.swap_cell.Tie as tie
 
@@ -41,19 +41,8 @@ module _ (s : tie.Start) where
   abbrev code : ℕ
   code = getD (s .args .codes .now) (s .args .found) 0
 
-returns : tie.Need-returns
-returns c =
-    let s : tie.Start = search in
-    visit-none (s .pre .0 .later)
-    (left-none (target s) (s .args .measures .reach) (sweepOf (s .args .dots .now) (s .args .progress)) _
-    (s .args .found)
-    (subst (λ n. n ≤ s .args .found) (held s .long) (c .if1 .taken)))
-
--- a partner was found: where it stands, and that its dot is unlike
-module _ (a : tie.Else1) where
-  abbrev start : tie.Start
-  start = search
-
+-- where the partner stands, and that its dot is unlike
+module _ (start : tie.Start) where
   abbrev row : ℕ
   row = start .args .at .row
 
@@ -61,13 +50,13 @@ module _ (a : tie.Else1) where
   col = start .args .at .col
 
   short : start .args .found < length (start .args .codes .now)
-  short = a .if1 .left
+  short = start .pre .1 .1 .0
 
   near : (rowOf (code start) ≤ 12) × (columnOf (code start) ≤ 12)
   near = held start .near (start .args .found) short
 
   took : lowersAt (target start) (start .args .dots .now) (m start) (offsetOf (code start)) ≡ true
-  took = start .pre .1 .1 short
+  took = start .pre .1 .1 .1
 
   lowersAt-is : (suits (target start) (start .args .dots .now) (m start) (offsetOf (code start)) ≡ true)
       × (lowers (target start) (start .args .dots .now)
@@ -75,13 +64,11 @@ module _ (a : tie.Else1) where
       ≡ true)
   lowersAt-is = and-eq-true-iff _ _ .0 took
 
-  suited : suits (target start) (start .args .dots .now) (m start) (offsetOf (code start)) ≡ true
-  suited = lowersAt-is .0
+  suited : Suited (target start) (start .args .dots .now) (m start) (offsetOf (code start))
+  suited = suits-so (target start) (start .args .dots .now) (m start) (offsetOf (code start)) (lowersAt-is .0)
 
   lands-there : lands (start .args .measures .width) (start .args .measures .height) (m start) (offsetOf (code start)) ≡ true
-  lands-there =
-      suits-lands (target start) row col (on start .col-below) (rowOf (code start)) (columnOf (code start))
-      (start .args .dots .now) suited
+  lands-there = suited .lands-there
 
   abbrev to : Cell
   to = record { row = row + rowOf (code start) - 6; col = col + columnOf (code start) - 6 }
@@ -104,39 +91,40 @@ module _ (a : tie.Else1) where
 
   unlike : Unlike (start .args .measures) (start .args .dots .now) (start .args .at) to
   unlike =
-      suits-unlike (target start) row col (on start .col-below) (rowOf (code start)) (columnOf (code start))
-      (start .args .dots .now) suited
+      subst (λ k. getD (start .args .dots .now) (m start) 0 ≡ getD (start .args .dots .now) k 0 → ⊥)
+      (stands _ (start .args .measures .height) row col (on start .col-below) (rowOf (code start))
+      (columnOf (code start)) lands-there) (suited .unlike)
 
 shared-slice-read-code : tie.Need-shared-slice-read-code
-shared-slice-read-code c = let a : tie.Else1 = search in short a
+shared-slice-read-code c = let a : tie.Start = search in short a
 
-cast-t14 : tie.Need-cast-t14
-cast-t14 c = let a : tie.Else1 = search in record { fits = omega (arith, near a) }
+cast-t16 : tie.Need-cast-t16
+cast-t16 c = let a : tie.Start = search in record { fits = omega (arith, near a) }
 
-add-t18 : tie.Need-add-t18
-add-t18 c =
-    let a : tie.Else1 = search in
-    let f = start a .pre .0 .later .plate .halftone in
-    record { fits = omega (arith, near a, on (start a) .row-below, f .high) }
+add-t17 : tie.Need-add-t17
+add-t17 c =
+    let a : tie.Start = search in
+    let f = a .pre .0 .later .plate .halftone in
+    record { fits = omega (arith, near a, on a .row-below, f .high) }
 
-sub-t19 : tie.Need-sub-t19
-sub-t19 c = let a : tie.Else1 = search in inside a .0
+sub-t18 : tie.Need-sub-t18
+sub-t18 c = let a : tie.Start = search in inside a .0
 
-cast-t21 : tie.Need-cast-t21
-cast-t21 c = let a : tie.Else1 = search in record { fits = omega (arith, near a) }
+cast-t20 : tie.Need-cast-t20
+cast-t20 c = let a : tie.Start = search in record { fits = omega (arith, near a) }
 
-add-t22 : tie.Need-add-t22
-add-t22 c =
-    let a : tie.Else1 = search in
-    let f = start a .pre .0 .later .plate .halftone in
-    record { fits = omega (arith, near a, on (start a) .col-below, f .wide) }
+add-t21 : tie.Need-add-t21
+add-t21 c =
+    let a : tie.Start = search in
+    let f = a .pre .0 .later .plate .halftone in
+    record { fits = omega (arith, near a, on a .col-below, f .wide) }
 
-sub-t23 : tie.Need-sub-t23
-sub-t23 c = let a : tie.Else1 = search in inside a .1
+sub-t22 : tie.Need-sub-t22
+sub-t22 c = let a : tie.Start = search in inside a .1
 
 swap-requires : tie.Need-swap-requires
 swap-requires c κs =
-    let a : tie.Else1 = search in (start a .pre .0, (on (start a), there a, unlike a))
+    let a : tie.Start = search in (a .pre .0, (on a, there a, unlike a))
 
 advance-requires : tie.Need-advance-requires
 advance-requires c κs = let s : tie.Start = search in s .pre .1 .0 .1
@@ -147,34 +135,33 @@ same-length c = search needs
 same-length-2 : tie.Need-same-length-2
 same-length-2 c = search needs
 
-returns-2 : tie.Need-returns-2
-returns-2 c =
-    let a : tie.Else1 = search in
+returns : tie.Need-returns
+returns c =
+    let a : tie.Start = search in
     let tried : tie.After-swap = search in
-    let g = start a .args in
+    let g = a .args in
     let found = g .found in
     let taken =
-    swap-taken (target (start a)) (g .measures .reach) (g .dots .now) (g .progress) (m (start a)) found
-    (subst (λ n. found < n) (held (start a) .long) (short a)) (held (start a) .at found (short a)) (took a)
-    (stands _ _ _ _ (on (start a) .col-below) (rowOf (code (start a))) (columnOf (code (start a))) (lands-there a)) in
-    attempt-advances (target (start a)) (g .dots .now) (g .progress) (cellSwap (g .measures) (g .dots .now) (g .at) (to a))
-    _ _ (entry-stats _ _ _ _ _ _ (start a .pre .0 .later)) (λ e. taken) (λ e. absurd (true≢false (sym (lower a) ∙ e))) _
+    swap-taken (target a) (g .measures .reach) (g .dots .now) (g .progress) (m a) found
+    (subst (λ n. found < n) (held a .long) (short a)) (held a .at found (short a)) (took a)
+    (stands _ _ _ _ (on a .col-below) (rowOf (code a)) (columnOf (code a)) (lands-there a)) in
+    attempt-advances (target a) (g .dots .now) (g .progress) (cellSwap (g .measures) (g .dots .now) (g .at) (to a))
+    _ _ (entry-stats _ _ _ _ _ _ (a .pre .0 .later)) (λ e. taken) (λ e. absurd (true≢false (sym (lower a) ∙ e))) _
     (c .advance .ensures) (tried .swap .ensures)
 
 pub swap-cell-spec : {M : Type 1} → statement M
 swap-cell-spec =
     tie.close
     (tie.spec
-    returns
     shared-slice-read-code
-    cast-t14
-    add-t18
-    sub-t19
-    cast-t21
-    add-t22
-    sub-t23
+    cast-t16
+    add-t17
+    sub-t18
+    cast-t20
+    add-t21
+    sub-t22
     swap-requires
     advance-requires
     same-length
     same-length-2
-    returns-2)
+    returns)

@@ -5,13 +5,13 @@ use mathlib.Core.Path.{refl, sym, _∙_, ap}
 use borrow.Author.Needs.{needs}
 use Rattle.model.specs.Basic.{tabulate}
 use Rattle.model.specs.Psf.{total}
-use Rattle.model.specs.Screen.{bayer, thresholds, ordered}
+use Rattle.model.specs.Screen.{bayer, thresholds, blank, ordered}
 use Rattle.model.proofs.Screen.{is-blank, is-ordered, is-given}
 use Rattle.starts_screen.proofs.start_dots.Statement.{statement}
 use Rattle.starts_screen.proofs.start_dots.Tie as tie
 
-clear-bytes-requires : tie.Need-clear-bytes-requires
-clear-bytes-requires c κs = search needs
+blank-dots-requires : tie.Need-blank-dots-requires
+blank-dots-requires c κs = let s : tie.Start = search in let (gray, dots) = s .pre .1 in dots ∙ sym gray
 
 slice-aggregate-order : tie.Need-slice-aggregate-order
 slice-aggregate-order c = search needs
@@ -30,8 +30,10 @@ returns : tie.Need-returns
 returns c =
     let s : tie.Start = search in
     let m : tie.At-match-keys1 = search in
-    let k : tie.After-clear-bytes = search in
-    k .clear-bytes .ensures ∙ ap (λ k. tabulate k (λ n. 0)) (s .pre .1 .1) ∙ sym (is-blank _ _ _ (m .match .keys1))
+    let k : tie.After-blank-dots = search in
+    k .blank-dots .ensures
+    ∙ ap (λ k. tabulate k (blank (s .args .gray .now))) (s .pre .1 .0)
+    ∙ sym (is-blank _ _ _ (m .match .keys1))
 
 same-length-2 : tie.Need-same-length-2
 same-length-2 c = search needs
@@ -56,7 +58,7 @@ pub start-dots-spec : {M : Type 1} → statement M
 start-dots-spec =
     tie.close
     (tie.spec
-    clear-bytes-requires
+    blank-dots-requires
     slice-aggregate-order
     order-requires
     same-length

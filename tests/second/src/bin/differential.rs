@@ -168,7 +168,8 @@ impl Run {
             _ => accepted == after.changes as i64,
         };
         let claims = [
-            ("nothing draws 20 or 21", matches!(answer, 0 | 8 | 9 | 22)),
+            ("nothing draws 16, 20 or 21", matches!(answer, 0 | 8 | 9 | 22 | 23)),
+            ("locked cells stay", !Second::default().contradicts(after)),
             ("the table is T", table == plate.filtered_error()),
             ("E now is the sum", stats[STATS_ERROR] == plate.sum_of_squares()),
             ("E at the start stays", stats[STATS_START_ERROR] == first[STATS_START_ERROR]),
@@ -373,7 +374,7 @@ impl Run {
         }
     }
 
-    /// The largest plates, and the ordered start with every gray.
+    /// The largest plates, and starts of kinds 0 and 1 with every gray.
     fn large(&mut self) {
         use Call::*;
         for size in [(256, 256), (256, 255), (200, 256)] {
@@ -386,15 +387,16 @@ impl Run {
         self.large_sheets();
         self.large_filed();
         self.large_files();
-        for gray in 0..=255 {
+        for (gray, start) in (0..=255).flat_map(|gray| [(gray, 0), (gray, 1)]) {
             let mut handed = generate::handed(&mut self.random, (17, 33));
-            (handed.start, handed.radius, handed.psf) = (1, 0, vec![1]);
+            (handed.start, handed.radius, handed.psf) = (start, 0, vec![1]);
             handed.gray.fill(gray);
             self.compare(Start, &mut handed);
         }
     }
 
-    /// The largest |T| that there is: all paper under dots, all black under blanks, and the largest psf sum.
+    /// The largest |T| that there is: all paper under dots, all black under blanks, and the largest psf sum. These are
+    /// locked, so plates are started next to them.
     fn extreme(&mut self) {
         for dot in 0..2 {
             let mut handed = generate::handed(&mut self.random, (256, 256));
@@ -403,7 +405,9 @@ impl Run {
             handed.gray.fill(255 * (1 - dot));
             self.compare(Call::FilteredError, &mut handed);
             self.expect("the largest |T|", handed.table.iter().any(|t| t.abs() == 267_386_880));
-            for call in [Call::SquaredError, Call::Start, Call::ToggleScan] {
+            self.compare(Call::SquaredError, &mut handed);
+            handed.gray.fill(if dot == 0 { 254 } else { 1 });
+            for call in [Call::Start, Call::ToggleScan] {
                 self.compare(call, &mut handed);
             }
         }
@@ -424,6 +428,10 @@ impl Run {
 
     /// The examples of document 01 that are no call, and so no vector.
     fn examples(&mut self) {
+        let cells = || (0..256).map(|at| (at / 16, at % 16));
+        let screened = |gray, dot| cells().all(|cell| self.second.screened(cell, gray) == (dot == 1));
+        let set = [0, 255].map(|gray| plain::lock(gray, None).is_some_and(|dot| screened(gray, dot)));
+        self.expect("the thresholds set locked cells as they have to be", set == [true, true]);
         let corner = [(0, 0), (0, 1), (1, 0), (1, 1)].map(|(row, col)| plain::threshold(row, col));
         self.expect("thresholds", corner == [0, 128, 192, 64]);
         let nearest = [(-1, -1), (-1, 1), (1, -1), (1, 1), (-1, 0), (0, -1), (0, 1), (1, 0)];
@@ -457,8 +465,12 @@ impl Run {
         }
     }
 
-    /// Rest in two ways: of a settled plate, of one that rests but for swaps, and of another one.
+    /// Rest in two ways: of a settled plate, of one that rests but for swaps, of another one, and of one that rests by its
+    /// locks alone.
     fn rest(&mut self) {
+        let held = Plate::new(&generate::filed::held(&mut self.random).plate, self.second.fault);
+        let lowers = held.toggle_changes()[4] < 0;
+        self.expect("rest by locks alone", lowers && held.rests() && held.rests_by_whole_sums());
         let size = (self.random.within(1, 5), self.random.within(1, 5));
         for make in [generate::filed::settled, generate::filed::toggled, generate::filed::as_it_is] {
             let plate = Plate::new(&make(&mut self.random, size).plate, self.second.fault);
@@ -494,13 +506,24 @@ fn outcomes_of(call: Call) -> &'static [&'static str] {
     match call {
         Call::TryToggle | Call::TrySwap => &["accepted", "declined", "tied"],
         Call::CheckFiled => &CHECKED,
-        _ if call.is_later() => &["changed", "unchanged"],
+        _ if call.is_later() => &["changed", "changed beside locks", "unchanged"],
         _ => &[],
     }
 }
 
-/// The ways in which a check comes out, those at rest last. Where the figure differs the ledger does not fit.
-const CHECKED: [&str; 6] = ["fits", "agrees", "differs", "fits and rests", "agrees and rests", "differs and rests"];
+/// The ways in which a check comes out: three for each number in the place of rest. Where the figure differs the ledger
+/// does not fit.
+const CHECKED: [&str; 9] = [
+    "fits",
+    "agrees",
+    "differs",
+    "fits and rests",
+    "agrees and rests",
+    "differs and rests",
+    "fits and draws 16",
+    "agrees and draws 16",
+    "differs and draws 16",
+];
 
 /// A slice of measures that are not five, with a call that takes one.
 const OTHER: &str = "handed other measures";
@@ -510,14 +533,16 @@ fn outcome(call: Call, answer: u32, before: &Handed, after: &Handed) -> Option<&
         _ if call.takes_measures() && before.other_measures.is_some() => Some(OTHER),
         _ if answer > 0 => None,
         Call::CheckFiled => {
-            let [agrees, fits, rests] = [VERDICT_AGREES, VERDICT_FITS, VERDICT_RESTS].map(|at| after.verdict[at] == 1);
+            let [agrees, fits] = [VERDICT_AGREES, VERDICT_FITS].map(|at| after.verdict[at] == 1);
             let way = if fits { 0 } else { 2 - usize::from(agrees) };
-            Some(CHECKED[way + 3 * usize::from(rests)])
+            let rests = [0, 1].iter().position(|&rests| rests == after.verdict[VERDICT_RESTS]).unwrap_or(2);
+            Some(CHECKED[way + 3 * rests])
         }
         _ if !call.is_later() => None,
         Call::TryToggle | Call::TrySwap if after.change == 0 => Some("tied"),
         Call::TryToggle | Call::TrySwap => Some(if after.change < 0 { "accepted" } else { "declined" }),
-        _ => Some(if before.dots == after.dots { "unchanged" } else { "changed" }),
+        _ if before.dots == after.dots => Some("unchanged"),
+        _ => Some(if generate::has_locks(before) { "changed beside locks" } else { "changed" }),
     }
 }
 

@@ -46,7 +46,8 @@ fn quick_sheet(random: &mut Random, size: (usize, usize)) -> Vec<u8> {
     sheet::text(&quick, quick.start)
 }
 
-/// All inputs: good sheets, damaged ones, the limits of 4,096 cells and 32,768 bytes, psf sums that a start refuses.
+/// All inputs: good sheets, damaged ones, dots that contradict a locked cell where they are given, the limits of 4,096
+/// cells and 32,768 bytes, psf sums that a start refuses.
 fn inputs(random: &mut Random) -> Vec<Vec<u8>> {
     let mut inputs = Vec::new();
     for _ in 0..400 {
@@ -58,6 +59,11 @@ fn inputs(random: &mut Random) -> Vec<Vec<u8>> {
         let mut sheet = sheet_of(random, size);
         (0..random.within(1, 2)).for_each(|_| generate::damage_sheet(random, &mut sheet));
         inputs.push(sheet);
+    }
+    for _ in 0..40 {
+        let mut handed = generate::handed(random, (3, 2));
+        generate::contradict(random, &mut handed);
+        inputs.push(sheet::text(&handed, handed.start));
     }
     for size in [(64, 64), (16, 256), (256, 16), (17, 241), (241, 17), (128, 33), (256, 256)] {
         inputs.push(quick_sheet(random, size));
@@ -148,7 +154,7 @@ fn compare(settle: &str, folders: &[String]) -> ExitCode {
         println!("printed, and not good by the check:\n{}", text(&filed));
     }
     println!("{kinds:?}");
-    for kind in ["settled", "refused 6", "refused 10", "refused 11", "refused 12", "refused 13"] {
+    for kind in ["settled", "refused 6", "refused 10", "refused 11", "refused 12", "refused 13", "refused 16"] {
         if !kinds.contains_key(kind) {
             println!("none was {kind}");
             failed += 1;

@@ -1,7 +1,7 @@
 //! Random filed sheets: plates that rest and plates that do not, ledgers that fit them and ledgers that do not, and
 //! single damages to their text.
 
-use super::{damage, damage_sheet, dot_total, handed, size, Random, BYTES};
+use super::{contradict, damage, damage_sheet, dot_total, handed, size, state, Random, BYTES};
 use crate::filed::Filed;
 use crate::handed::{Call, Handed, VERDICT};
 use crate::plain::{Plate, Second, MAX_COUNT, MAX_ERROR};
@@ -23,6 +23,9 @@ pub fn filed(random: &mut Random) -> Filed {
         let size = size(random);
         return as_it_is(random, size);
     }
+    if random.one_in(12) {
+        return held(random);
+    }
     let most = random.pick(&[1, 2, 4, 6, 8]);
     let size = (random.within(1, most), random.within(1, most));
     if random.one_in(3) {
@@ -36,6 +39,18 @@ pub fn filed(random: &mut Random) -> Filed {
 pub fn as_it_is(random: &mut Random, size: (usize, usize)) -> Filed {
     let plate = handed(random, size);
     of(Handed { scans: random.any() >> 1, ..plate })
+}
+
+/// A plate that rests, though a toggle of its middle cell, which is locked, would lower E: paper, gray at the four cells
+/// beside the middle, all blank; or the reverse. There 2T is 12 times the error, in the middle 16 times, and P is 4.
+pub fn held(random: &mut Random) -> Filed {
+    let (gray, ink) = (random.within(64, 85) as u8, random.one_in(2));
+    let plate = Handed { radius: 1, psf: vec![1, 1, 0, 1, 1, 0, 0, 0, 0], ..handed(random, (3, 3)) };
+    let light = (0..9).map(|at| if at % 2 == 1 { gray } else { 0 });
+    let gray = if ink { light.map(|gray| 255 - gray).collect() } else { light.collect() };
+    let mut plate = Handed { gray, dots: vec![u8::from(ink); 9], scans: 2, ..plate };
+    state(random, &mut plate);
+    of(plate)
 }
 
 /// A plate after toggle scans, the last of which accepted nothing: it rests but for swaps.
@@ -71,13 +86,15 @@ pub fn of(plate: Handed) -> Filed {
 /// What the check of a filed sheet can be handed: the plate or its figures, and then the text, changed or not.
 pub fn varied(random: &mut Random, filed: &Filed) -> Handed {
     let mut filed = filed.clone();
+    if random.one_in(8) {
+        contradict(random, &mut filed.plate);
+        mend(&mut filed);
+    }
     match random.below(10) {
         0 => turn(random, &mut filed.plate),
         1 => {
             turn(random, &mut filed.plate);
-            let error = Plate::new(&filed.plate, None).sum_of_squares();
-            filed.figures[BEFORE] += (error - filed.figures[AFTER]).max(0);
-            filed.figures[AFTER] = error;
+            mend(&mut filed);
         }
         2..=4 => misstate(random, &mut filed),
         5 => damage(random, Call::CheckFiled, 6, &mut filed.plate),
@@ -102,6 +119,13 @@ pub fn varied(random: &mut Random, filed: &Filed) -> Handed {
 fn turn(random: &mut Random, plate: &mut Handed) {
     let at = random.below(plate.cells());
     plate.dots[at] = 1 - plate.dots[at];
+}
+
+/// The figure of the plate as it is now, and at least as much at the start.
+fn mend(filed: &mut Filed) {
+    let error = Plate::new(&filed.plate, None).sum_of_squares();
+    filed.figures[BEFORE] += (error - filed.figures[AFTER]).max(0);
+    filed.figures[AFTER] = error;
 }
 
 /// One figure off by one or at a limit, or a whole ledger at or just beyond a limit of one of the conditions.
