@@ -4,19 +4,34 @@ ghost use Prim.Native.Nat.{_+_, _≤_, _<_};
 ghost use lib.ListN.{length};
 ghost use Rattle.model.specs.Text.{digits, Puts};
 
-// Puts a number at a place: its higher digits first, by the same rule, then its last digit. It answers the place after
-// it.
+// Puts a number at a place, from its last digit down to its first, and answers the place after it.
 pub fn put_number(out: &mut [u8], at: usize, n: usize) -> usize
     requires { ⌜ at + length (digits n) ≤ length (now out) ⌝ }
     ensures { λ r. ⌜ Puts (digits n) (now (out .entry)) (now (out .exit)) at r ⌝ }
 {
-    if n < 10 {
-        out[at] = 48 + (n as u8);
-        return at + 1;
+    let end = at + digit_length(n);
+    let mut next = end;
+    let mut rest = n;
+    while 10 <= rest {
+        next -= 1;
+        out[next] = 48 + ((rest % 10) as u8);
+        rest = rest / 10;
     }
-    let end = put_number(out, at, n / 10);
-    out[end] = 48 + ((n % 10) as u8);
-    end + 1
+    out[at] = 48 + (rest as u8);
+    end
+}
+
+// how many digits a number has
+fn digit_length(n: usize) -> usize
+    ensures { λ r. ⌜ r ≡ length (digits n) ⌝ }
+{
+    let mut rest = n;
+    let mut lower: usize = 0;
+    while 1000 <= rest {
+        rest = rest / 1000;
+        lower += 3;
+    }
+    lower + digit_count(rest)
 }
 
 // how many digits a number below 1,000 has
