@@ -1,8 +1,8 @@
 /*
- * Measures the library's functions for raw PBM and PGM files on 256 by 256 cells against plain C loops over the same
- * bytes, which judge nothing but lengths. Both sides take turns in one run; a time is the least of all turns. Prints a
- * table, with --markdown one for a page; the last line is 'N passed, M failed'. A function passes when both sides ended
- * alike and the library took at most LIMIT times as long as the loop.
+ * Measures the library's functions for raw PBM and PGM files, and its writer of sheets, on 256 by 256 cells against
+ * plain C loops over the same bytes, which judge nothing but lengths. Both sides take turns in one run; a time is the
+ * least of all turns. Prints a table, with --markdown one for a page; the last line is 'N passed, M failed'. A function
+ * passes when both sides ended alike and the library took at most LIMIT times as long as the loop.
  */
 #define _POSIX_C_SOURCE 199309L
 #include <stdio.h>
@@ -12,7 +12,7 @@
 
 #include "platemaker.h"
 
-enum { SIDE = 256, CELLS = SIDE * SIDE, BYTES = CELLS + 16 };
+enum { SIDE = 256, CELLS = SIDE * SIDE, BYTES = PM_MAX_SHEET };
 enum { TURNS = 1000, LIMIT = 5 };
 
 /* all that a function may write; one for each side */
@@ -23,10 +23,12 @@ struct results {
     uint32_t counts[SIDE];
 };
 
-/* what all of them read: the measures, which the compiler does not know, the cells, both files of them, and the rows of
-   the PBM */
+/* what all of them read: the measures, which the compiler does not know, the cells, both files of them, the rows of the
+   PBM, and the measures and psf of a sheet */
 static size_t width, height, cells, line, packed;
 static uint8_t dots[CELLS], gray[CELLS], pbm[BYTES], pgm[BYTES], rows[CELLS];
+static size_t measures[PM_MEASURES];
+static uint8_t psf[PM_MAX_PSF];
 static size_t pbm_length, pgm_length;
 static struct results by_library, by_loop;
 
@@ -80,6 +82,34 @@ static void loop_write_pgm(struct results *r) {
     r->length = at + cells;
 }
 
+/* a number and the byte that ends it; the place after both */
+static size_t write_field(uint8_t *file, size_t at, size_t value, char end) {
+    char digits[20];
+    size_t count = 0;
+    do digits[count++] = (char)('0' + value % 10);
+    while ((value /= 10) != 0);
+    while (count > 0) file[at++] = (uint8_t)digits[--count];
+    file[at++] = (uint8_t)end;
+    return at;
+}
+
+/* a name and its values in rows; the place after them */
+static size_t write_block(uint8_t *file, size_t at, const char *name, const uint8_t *values, size_t count, size_t in_row) {
+    at += (size_t)sprintf((char *)file + at, "%s\n", name);
+    for (size_t i = 0; i < count; i++) at = write_field(file, at, values[i], (i + 1) % in_row == 0 ? '\n' : ' ');
+    return at;
+}
+
+static void loop_write_sheet(struct results *r) {
+    size_t at = (size_t)sprintf((char *)r->file, "width height radius reach start\n");
+    for (size_t i = 0; i < PM_MEASURES; i++) at = write_field(r->file, at, measures[i], i + 1 == PM_MEASURES ? '\n' : ' ');
+    at = write_block(r->file, at, "psf", psf, PM_MAX_PSF, 2 * measures[PM_MEASURE_RADIUS] + 1);
+    at = write_block(r->file, at, "gray", gray, cells, width);
+    at = write_block(r->file, at, "dots", dots, cells, width);
+    r->status = 0;
+    r->length = at;
+}
+
 /* the ones of a byte: in pairs of bits, then in fours, then in all eight */
 static uint32_t ones(unsigned byte) {
     byte -= byte >> 1 & 0x55;
@@ -112,6 +142,12 @@ static void library_write_pgm(struct results *r) {
     r->status = pm_write_pgm(width, height, gray, cells, r->file, BYTES, &r->length);
 }
 
+static void library_write_sheet(struct results *r) {
+    size_t offset;
+    r->status = pm_write_sheet(measures, PM_MEASURES, psf, PM_MAX_PSF, gray, cells, dots, cells, r->file, BYTES,
+                               &r->length, &offset);
+}
+
 static void library_count_rows(struct results *r) {
     r->status = pm_count_rows(width, height, rows, packed, r->counts, height);
 }
@@ -125,6 +161,7 @@ static const struct job {
     {"pm_read_pbm", library_read_pbm, loop_read_pbm},    {"pm_read_pgm", library_read_pgm, loop_read_pgm},
     {"pm_write_pbm", library_write_pbm, loop_write_pbm}, {"pm_write_pgm", library_write_pgm, loop_write_pgm},
     {"pm_count_rows", library_count_rows, loop_count_rows},
+    {"pm_write_sheet", library_write_sheet, loop_write_sheet},
 };
 
 /* noise, and the files of it by the loops */
@@ -139,6 +176,9 @@ static void fill(size_t side) {
         gray[i] = (uint8_t)(noise >> 24);
         dots[i] = noise >> 23 & 1;
     }
+    size_t values[PM_MEASURES] = {width, height, 3, 6, 2};
+    memcpy(measures, values, sizeof values);
+    memset(psf, 20, sizeof psf);
     loop_write_pbm(&by_loop);
     pbm_length = by_loop.length;
     memcpy(pbm, by_loop.file, pbm_length);
