@@ -94,7 +94,8 @@ static size_t write_field(uint8_t *file, size_t at, size_t value, char end) {
 }
 
 /* a name and its values in rows; the place after them */
-static size_t write_block(uint8_t *file, size_t at, const char *name, const uint8_t *values, size_t count, size_t in_row) {
+static size_t write_block(uint8_t *file, size_t at, const char *name, const uint8_t *values, size_t count,
+                          size_t in_row) {
     at += (size_t)sprintf((char *)file + at, "%s\n", name);
     for (size_t i = 0; i < count; i++) at = write_field(file, at, values[i], (i + 1) % in_row == 0 ? '\n' : ' ');
     return at;
@@ -102,7 +103,9 @@ static size_t write_block(uint8_t *file, size_t at, const char *name, const uint
 
 static void loop_write_sheet(struct results *r) {
     size_t at = (size_t)sprintf((char *)r->file, "width height radius reach start\n");
-    for (size_t i = 0; i < PM_MEASURES; i++) at = write_field(r->file, at, measures[i], i + 1 == PM_MEASURES ? '\n' : ' ');
+    for (size_t i = 0; i < PM_MEASURES; i++) {
+        at = write_field(r->file, at, measures[i], i + 1 == PM_MEASURES ? '\n' : ' ');
+    }
     at = write_block(r->file, at, "psf", psf, PM_MAX_PSF, 2 * measures[PM_MEASURE_RADIUS] + 1);
     at = write_block(r->file, at, "gray", gray, cells, width);
     at = write_block(r->file, at, "dots", dots, cells, width);
