@@ -2,6 +2,7 @@
 --   slice-bytes                       a slice of bytes holds numbers up to 255
 --   ready-judged                      a plate with its ledger is a judged one
 --   place-fits, on-plate              what a cell's place asks for, and that the cell is one of the plate's
+--   way-on, way-next, way-ahead, way-end  where a scan stands: on the plate, one cell on, some in the row, past the last
 --   kernel-square, judged-small       the numbers of kernel and table are small
 --   toggle-weighs, swap-weighs        document 01's formulas over table and kernel are what a toggle and a swap add
 --   store-window, stored-judged       a byte is stored: by a window the table follows, and it is a judged plate again
@@ -11,14 +12,15 @@
 use mathlib.Core.Bool.{true, false}
 use mathlib.Core.List.{List, [], _∷_}
 use mathlib.Core.Path.{_≡_, refl, sym, _∙_, ap, ap₂, subst}
-use Prim.Native.Nat.{ℕ, _*_, _≤_, _<_}
+use Prim.Native.Nat.{ℕ, suc, _+_, _*_, _≤_, _<_}
+use native.Mathlib.Nat.{mul-le-mul-right}
 use native.Mathlib.Omega.{arith}
 use lib.IntN.{ℤ, pos, natAbs, _-ℤ_, _*ℤ_}
 use lib.ListN.{length, getD, set}
 use lib.Signed.{ltZ, _≤ℤ_, _<ℤ_, clashℤ}
 use mir.Syntax.{w8}
 use mir.Val.{Fits}
-use Rattle.algebra.proofs.Grid.{cell-row, cell-column, cell<}
+use Rattle.algebra.proofs.Grid.{cell-row, cell-column, cell<, rows-apart}
 use Rattle.algebra.proofs.Order.{natAbs-below}
 use Rattle.model.specs.declared.Cell.{Cell}
 use Rattle.model.specs.declared.Measures.{Measures}
@@ -27,7 +29,7 @@ use Rattle.model.specs.Basic.{AtMost, squareAt}
 use Rattle.model.specs.Psf.{peak}
 use Rattle.model.specs.Error.{Target, targetFor, cells, kernel, filteredError, filteredErrors, mostSquared, mostFiltered}
 use Rattle.model.specs.Refusal.{HalftoneFits}
-use Rattle.model.specs.Change.{Move, sign, toggleSum, swapSum, toggle, swap, made, change}
+use Rattle.model.specs.Change.{Move, sign, toggleSum, swapSum, toggle, made, change}
 use Rattle.model.specs.Reference.{accepted, declined, reference, Performed, attempt}
 use Rattle.model.specs.Calls.{Reply, result, Ends, buffers, laterCall}
 use Rattle.model.proofs.Basic.{getD-tabulate}
@@ -39,13 +41,32 @@ use Rattle.model.proofs.Reference.{halftone-made}
 use Rattle.model.proofs.Attempts.{attempt-cases}
 use Rattle.model.proofs.Calls.{ends-done}
 use Rattle.invariants.specs.Window.{Small, HoldsSquare, addWindow, mostKernel}
-use Rattle.invariants.specs.Plate.{Judged, Ready, OnPlate, cellOf, cellSwap, Unlike}
+use Rattle.invariants.specs.Plate.{Judged, Ready, OnPlate, OnWay, cellOf, cellSwap, Unlike}
 use Rattle.invariants.specs.Plate.{mostChange, Weighs, Countable, Leaves, accepting, asReply}
 use Rattle.invariants.proofs.Window.{square-small, store-table, table-small}
 
 -- what a slice of bytes is known to hold
 pub slice-bytes : {l : List ℕ} → ((i : ℕ) → Fits w8 (getD l i 0)) → AtMost 255 l
 slice-bytes h = record { each = λ i. omega (arith, h i) }
+
+-- ---- where a scan stands
+module _ {m : Measures} {at : Cell} where
+  -- above the bottom of the plate on a cell of it
+  pub way-on : OnWay m at → at .row < m .height → OnPlate m at
+  way-on w h = record { row-below = h; col-below = w .column }
+
+  -- below it past the last
+  pub way-end : OnWay m at → m .height ≤ at .row → cellOf (m .width) at ≡ m .height * m .width
+  way-end w h = omega (arith, w .so-far, mul-le-mul-right (m .width) h)
+
+  -- from a cell to the next, and some cells on in the row
+  module _ (on : OnPlate m at) {to : Cell} (column : to .col < m .width) where
+    pub way-next : cellOf (m .width) to ≡ suc (cellOf (m .width) at) → OnWay m to
+    way-next e = record { column = column; so-far = omega (arith, e, cell< (on .row-below) (on .col-below)) }
+
+    pub way-ahead : (k : ℕ) → cellOf (m .width) to ≡ cellOf (m .width) at + k → at .col + k ≤ m .width → OnWay m to
+    way-ahead k e short =
+        record { column = column; so-far = omega (arith, e, short, rows-apart (m .width) (on .row-below)) }
 
 -- ---- a judged plate
 module _ {m : Measures} {psf gray : List ℕ} {c : List ℤ} {dots : List ℕ} {table : List ℤ} where

@@ -6,34 +6,40 @@
 --   Scanning                           the cells before this one done, what is there is the reference's
 --   scanning-start, scanning-ready     it starts from what a later call is handed, and later calls accept what is there
 --   scanning-few                       its accepted changes are few
---   scanning-next, scanning-ahead      one cell more; a run of cells more, where nothing is accepted at any
+--   scanning-next                      one cell more
+--   scanning-span, scanning-ahead      on to another cell; a run of cells more: where nothing is accepted at any
+--   trials-here, trials-ahead          the trials at a cell, and at cells where nothing is accepted
 --   scanning-end, scan-leaves          every cell done, and what the scan answers then
 use mathlib.Core.Bool.{true, false}
 use mathlib.Core.List.{List, [], _∷_}
 use mathlib.Core.Path.{_≡_, refl, sym, _∙_, ap, ap₂, subst}
 use Prim.Native.Nat.{ℕ, zero, suc, _+_, _*_, _^_, _≤_, _<_}
-use native.Mathlib.Nat.{mul-le-mul-right}
 use native.Mathlib.Numerals.{add-one}
 use native.Mathlib.Omega.{arith}
 use lib.IntN.{ℤ}
-use Rattle.algebra.proofs.Grid.{cell<, rows-apart}
+use lib.ListN.{length}
 use Rattle.model.specs.declared.Cell.{Cell}
 use Rattle.model.specs.declared.Measures.{Measures}
 use Rattle.model.specs.declared.Stats.{Stats}
 use Rattle.model.specs.declared.Progress.{Progress}
 use Rattle.model.specs.declared.ScanResult.{ScanResult}
-use Rattle.model.specs.Basic.{pick}
+use Rattle.model.specs.Basic.{pick, tabulate}
 use Rattle.model.specs.Error.{Target, targetFor, cells, filteredErrors}
 use Rattle.model.specs.Lock.{locked, Free}
-use Rattle.model.specs.Change.{Move, toggle, lowers}
+use Rattle.model.specs.Change.{Move, toggle, lowers, look}
+use Rattle.model.specs.Psf.{total}
 use Rattle.model.specs.Calls.{Reply}
 use Rattle.model.specs.Reference.{Reference, reference, accept, statsOf, Tried, attempt}
 use Rattle.model.specs.State.{LaterFits}
 use Rattle.model.specs.Scan.{Rule, toggles, Sweep, tryEach, sweepTo, sweep, progressOf, resultOf, scan}
+use Rattle.model.specs.Scan.{trialsAt, trialsTo}
 use Rattle.model.proofs.Basic.{pick-cases}
 use Rattle.model.proofs.Attempts.{Sound, entry-stats, attempt-by}
 use Rattle.model.proofs.Scan.{Lawful, more, try-none, try-step, sweep-later, sweep-counts}
-use Rattle.invariants.specs.Plate.{OnPlate, cellOf, Leaves, asReply}
+use Rattle.model.proofs.Tables.{total-tabulate}
+use Rattle.model.proofs.Trials.{trials-next}
+use Rattle.invariants.specs.Plate.{OnPlate, OnWay, cellOf, Leaves, asReply}
+use Rattle.invariants.proofs.Plate.{way-on, way-next, way-ahead, way-end}
 use Rattle.invariants.specs.Trials.{advanced, sweepOf, performed, visit}
 
 -- ---- at one cell
@@ -114,9 +120,7 @@ pub record Scanning (m : Measures) (psf gray : List ℕ) (rule : Rule) (p : Refe
   -- what is there is the reference's
   pub left : (let t = targetFor m psf gray in
       Leaves t (performed t (sweepTo t rule p (cellOf (m .width) at))) r dots table)
-  -- the cell is one of the plate's, or the first below it
-  pub column : at .col < m .width
-  pub so-far : cellOf (m .width) at ≤ m .height * m .width
+  pub on-way : OnWay m at
 
 -- the same by the number of cells done
 record Done (m : Measures) (psf gray : List ℕ) (rule : Rule) (p : Reference) (n : ℕ)
@@ -189,6 +193,40 @@ done-skip n (suc k) u f still =
     let before = done-skip n k u f (λ j h. still j (omega arith)) in
     done-at (done-next before (visit-none f (still k (omega arith)))) (omega arith)
 
+-- their trials, where all that the rule attempts is weighed
+trials-at : {m : Measures} {psf gray : List ℕ} {rule : Rule} {p : Reference} {n : ℕ} {dots : List ℕ} {table : List ℤ}
+    {r : Progress} → Done m psf gray rule p n dots table r
+    → (let t = targetFor m psf gray in trialsAt t rule p n ≡ length (look t dots (rule dots n) .weighed))
+unfolding trialsAt
+trials-at {m} {psf} {gray} {rule} {n = n} u =
+    ap (λ d. length (look (targetFor m psf gray) d (rule d n) .weighed)) (sym (u .left .dots-are))
+
+trials-skip : {m : Measures} {psf gray : List ℕ} {rule : Rule} {p : Reference} {dots : List ℕ} {table : List ℤ}
+    {r : Progress} (n k : ℕ) → Done m psf gray rule p n dots table r → LaterFits m psf gray dots table (r .stats)
+    → ((j : ℕ) → j < k → visit (targetFor m psf gray) rule dots r (n + j) ≡ sweepOf dots r)
+    → ((j : ℕ) → j < k → look (targetFor m psf gray) dots (rule dots (n + j)) .weighed ≡ rule dots (n + j))
+    → (let t = targetFor m psf gray in
+    let attempts : ℕ → ℕ = λ n. total (tabulate n (λ i. length (rule dots i))) in
+    trialsTo t rule p (n + k) + attempts n ≡ trialsTo t rule p n + attempts (n + k))
+trials-skip {m} {psf} {gray} {rule} {p} {dots} n zero u f still weighed =
+    let t = targetFor m psf gray in
+    let none : n + 0 ≡ n = omega arith in
+    ap (λ k. trialsTo t rule p k + total (tabulate n (λ i. length (rule dots i)))) none
+    ∙ ap (λ k. trialsTo t rule p n + total (tabulate k (λ i. length (rule dots i)))) (sym none)
+trials-skip {m} {psf} {gray} {rule} {p} {dots} n (suc k) u f still weighed =
+    let t = targetFor m psf gray in
+    let next : n + suc k ≡ suc (n + k) = omega arith in
+    let before = done-skip n k u f (λ j h. still j (omega arith)) in
+    omega (
+      arith,
+      trials-skip n k u f (λ j h. still j (omega arith)) (λ j h. weighed j (omega arith)),
+      ap (trialsTo t rule p) next,
+      trials-next t rule p (n + k),
+      trials-at before ∙ ap length (weighed k (omega arith)),
+      ap (λ k. total (tabulate k (λ i. length (rule dots i)))) next,
+      total-tabulate (n + k) (λ i. length (rule dots i)),
+    )
+
 -- it starts from what a later call is handed
 pub scanning-start : (m : Measures) (psf gray : List ℕ) (rule : Rule) {dots : List ℕ} {table : List ℤ} {s : Stats}
     → LaterFits m psf gray dots table s
@@ -205,7 +243,10 @@ scanning-start m psf gray rule {dots} {table} {s} f =
       };
     } in
     let at : 0 ≡ 0 * m .width + 0 = omega arith in
-    record { left = done-at none at .left; column = f .plate .halftone .wide .0; so-far = omega arith }
+    record {
+      left = done-at none at .left;
+      on-way = record { column = f .plate .halftone .wide .0; so-far = omega arith };
+    }
 
 module _ {m : Measures} {psf gray : List ℕ} {rule : Rule} {p : Reference} {at : Cell}
     {dots : List ℕ} {table : List ℤ} {r : Progress} (u : Scanning m psf gray rule p at dots table r)
@@ -215,15 +256,15 @@ module _ {m : Measures} {psf gray : List ℕ} {rule : Rule} {p : Reference} {at 
 
   -- later calls accept what is there
   pub scanning-fits : LaterFits m psf gray dots table (r .stats)
-  scanning-fits = done-fits so lawful sound (u .so-far)
+  scanning-fits = done-fits so lawful sound (u .on-way .so-far)
 
   -- its accepted changes are few
   pub scanning-few : r .changes < 2 ^ 63
-  scanning-few = done-few so lawful sound (u .so-far)
+  scanning-few = done-few so lawful sound (u .on-way .so-far)
 
   -- above the bottom of the plate the cell is one of it
   pub scanning-here : at .row < m .height → OnPlate m at
-  scanning-here h = record { row-below = h; col-below = u .column }
+  scanning-here = way-on (u .on-way)
 
   -- one cell more
   module _ (on : OnPlate m at) {to : Cell} (column : to .col < m .width) where
@@ -237,34 +278,58 @@ module _ {m : Measures} {psf gray : List ℕ} {rule : Rule} {p : Reference} {at 
         let visited = subst (λ (s : Sweep). Leaves t (performed t s) r′ dots′ table′) here left in
         record {
           left = done-at (done-next so visited) (sym e) .left;
-          column = column;
-          so-far = omega (arith, e, cell< (on .row-below) (on .col-below));
+          on-way = way-next on column e;
         }
 
-    -- k cells more in the row, where nothing is accepted at any of them
-    pub scanning-ahead : {k : ℕ} → cellOf (m .width) to ≡ cellOf (m .width) at + k → at .col + k ≤ m .width
-        → ((j : ℕ) → j < k
-        → visit (targetFor m psf gray) rule dots r (cellOf (m .width) at + j) ≡ sweepOf dots r)
-        → Scanning m psf gray rule p to dots table r
-    scanning-ahead {k} e short still =
-        record {
-          left = done-at (done-skip (cellOf (m .width) at) k so scanning-fits still) (sym e) .left;
-          column = column;
-          so-far = omega (arith, e, short, rows-apart (m .width) (on .row-below));
-        }
+  -- nothing is accepted at any of the next k cells
+  abbrev pub Still : ℕ → Type 0
+  Still k =
+      (j : ℕ) → j < k → visit (targetFor m psf gray) rule dots r (cellOf (m .width) at + j) ≡ sweepOf dots r
+
+  -- on to the cell after them
+  pub scanning-span : {to : Cell} {k : ℕ} → OnWay m to → cellOf (m .width) to ≡ cellOf (m .width) at + k → Still k
+      → Scanning m psf gray rule p to dots table r
+  scanning-span {to} {k} way e still =
+      record {
+        left = done-at (done-skip (cellOf (m .width) at) k so scanning-fits still) (sym e) .left;
+        on-way = way;
+      }
+
+  -- in the row
+  pub scanning-ahead : OnPlate m at → {to : Cell} → to .col < m .width → {k : ℕ}
+      → cellOf (m .width) to ≡ cellOf (m .width) at + k → at .col + k ≤ m .width → Still k
+      → Scanning m psf gray rule p to dots table r
+  scanning-ahead on column {k} e short still = scanning-span (way-ahead on column k e short) e still
+
+  -- the trials at the cell
+  pub trials-here : (let t = targetFor m psf gray in
+      trialsAt t rule p (cellOf (m .width) at) ≡ length (look t dots (rule dots (cellOf (m .width) at)) .weighed))
+  trials-here = trials-at so
+
+  -- at the next k cells, where all that the rule attempts is weighed: those of the cells before, and theirs
+  pub trials-ahead : (k : ℕ) → Still k
+      → ((j : ℕ) → j < k → (let n = cellOf (m .width) at + j in
+      look (targetFor m psf gray) dots (rule dots n) .weighed ≡ rule dots n))
+      → (let t = targetFor m psf gray in
+      let n = cellOf (m .width) at in
+      let attempts : ℕ → ℕ = λ n. total (tabulate n (λ i. length (rule dots i))) in
+      trialsTo t rule p (n + k) + attempts n ≡ trialsTo t rule p n + attempts (n + k))
+  trials-ahead k still weighed = trials-skip (cellOf (m .width) at) k so scanning-fits still weighed
 
   -- every cell done
   pub scanning-end : m .height ≤ at .row
       → (let t = targetFor m psf gray in Leaves t (performed t (sweep t rule p)) r dots table)
-  scanning-end below =
-      let all : cellOf (m .width) at ≡ m .height * m .width =
-      omega (arith, u .so-far, mul-le-mul-right (m .width) below) in
-      done-at so all .left
+  scanning-end below = done-at so (way-end (u .on-way) below) .left
 
 -- and what it answers then
-pub scan-leaves : {t : Target} (rule : Rule) (p : Reference) {r : Progress} {answer : ScanResult} {dots : List ℕ}
-    {table : List ℤ} → answer ≡ resultOf r → Leaves t (performed t (sweep t rule p)) r dots table
+pub scan-leaves : {t : Target} (rule : Rule) (p : Reference) {r : Progress} {n : ℕ} {answer : ScanResult} {dots : List ℕ}
+    {table : List ℤ} → answer ≡ resultOf r n → n ≡ trialsTo t rule p (cells t)
+    → Leaves t (performed t (sweep t rule p)) r dots table
     → Leaves t (scan t rule p) answer dots table
 unfolding scan
-scan-leaves rule p e left =
-    record { answer-is = e ∙ ap resultOf (left .answer-is); dots-are = left .dots-are; table-is = left .table-is }
+scan-leaves rule p e counted left =
+    record {
+      answer-is = e ∙ ap₂ resultOf (left .answer-is) counted;
+      dots-are = left .dots-are;
+      table-is = left .table-is;
+    }

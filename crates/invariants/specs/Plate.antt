@@ -2,7 +2,7 @@
 -- plain plate) has done the same.
 use mathlib.Core.List.{List}
 use mathlib.Core.Path.{_≡_}
-use Prim.Native.Nat.{ℕ, _^_, _≤_, _<_}
+use Prim.Native.Nat.{ℕ, _+_, _*_, _^_, _≤_, _<_}
 use lib.IntN.{ℤ, natAbs}
 use lib.ListN.{length, getD}
 use Rattle.model.specs.declared.Cell.{Cell}
@@ -32,6 +32,11 @@ module _ (m : Measures) (psf gray : List ℕ) (c : List ℤ) (dots : List ℕ) (
     pub later : LaterFits m psf gray dots table s
     pub kernel : HoldsKernel (m .radius) psf c
     pub bytes : AtMost 255 gray
+
+-- a cell of the plate, or the first below it: where a scan under way stands
+pub record OnWay (m : Measures) (at : Cell) : Type 0 where
+  pub column : at .col < m .width
+  pub so-far : at .row * m .width + at .col ≤ m .height * m .width
 
 -- a cell of the plate, and its number
 pub record OnPlate (m : Measures) (at : Cell) : Type 0 where

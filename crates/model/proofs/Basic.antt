@@ -1,4 +1,5 @@
 -- Laws of the general definitions: a choice, a list by its entries, and an entry of a square.
+--   one-most                           1 is the most that is counted for a test
 --   pick-cases, zero-cases             a choice by what is known of its test, or of a number that is tested for 0
 --   neither, none-below, all-below     where no test holds: of two, and of all below a number
 --   all-append                         what holds of every entry of two lists holds of the two together
@@ -25,7 +26,7 @@ use Rattle.algebra.proofs.Solver.{ring!, reify}
 use Rattle.algebra.proofs.Order.{show≤, show<, show≡, read<, read≡}
 use Rattle.algebra.proofs.Grid.{cell<}
 use Rattle.algebra.proofs.Interval.{Supported2}
-use Rattle.model.specs.Basic.{pick, someBelow, tabulate, All, AtMost, gridAt, squareAt}
+use Rattle.model.specs.Basic.{pick, oneIf, someBelow, tabulate, All, AtMost, gridAt, squareAt}
 
 -- ---- no test holds
 pub neither : (a b : Bool) → a || b ≡ false → (a ≡ false) × (b ≡ false)
@@ -65,6 +66,10 @@ pick-cases Q true f g = f refl
 pick-cases Q false f g = g refl
 
 -- by what is known of a number that is tested for 0
+pub one-most : (b : Bool) → oneIf b ≤ 1
+one-most true = omega arith
+one-most false = omega arith
+
 pub zero-cases : {A : Type 0} (Q : A → Type 0) (n : ℕ) {x y : A} → (n ≡ 0 → Q x) → ((n ≡ 0 → ⊥) → Q y)
     → Q (pick (eqb n 0) x y)
 zero-cases Q n f g = pick-cases Q (eqb n 0) (λ t. f (eqb-true n 0 t)) (λ t. g (eqb-false n 0 t))

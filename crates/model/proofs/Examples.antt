@@ -1,6 +1,6 @@
 -- The starred examples of document 01 hold (`examples`), plates at rest break the half-peak bound on its other side
--- (`one-sided`), and others break it and both tests of rest at a locked cell (`of-unlocked`): each figure is computed
--- from the sums.
+-- (`one-sided`), others break it and both tests of rest at a locked cell (`of-unlocked`), and scans make their trials
+-- (`scan-examples`): each figure is computed from the sums.
 use mathlib.Core.Path.{refl}
 use native.Mathlib.Omega.{arith}
 use Rattle.algebra.specs.Sum.{sumTo, sumFrom}
@@ -16,13 +16,14 @@ use Rattle.model.specs.State.{laterRefusal, toggleRefusal, swapRefusal}
 use Rattle.model.specs.Reference.{accept, statsOf, attempt}
 use Rattle.model.specs.Partners.{offsetsOf, offsetsFrom, offsets}
 use Rattle.model.specs.Scan.{toggles, swapsBy, tryEach, sweepTo, convergeIn, convergeFrom, converge}
-use Rattle.model.specs.Calls.{laterCall, startCall, toggleCall, swapCall, convergeCall}
+use Rattle.model.specs.Scan.{progressOf, trialsAt, scan}
+use Rattle.model.specs.Calls.{laterCall, startCall, toggleCall, swapCall, toggleScanCall, swapScanCall, convergeCall}
 use Rattle.model.specs.Text.{digits}
 use Rattle.model.specs.Sheet.{names, psfName, grayName, dotsName, sheetText}
 use Rattle.model.specs.Format.{headFrom, body, fieldAt, headBy, bodyEnd, readSheet}
 use Rattle.model.specs.Program.{refusedText, figuresText, processedText, output}
 use Rattle.model.specs.Examples.{workedInput, workedOutput, Examples, dark, darkDots, light, lightDots, OneSided}
-use Rattle.model.specs.Examples.{ring, ringBlank, ringDot, OfUnlocked}
+use Rattle.model.specs.Examples.{ring, ringBlank, ringDot, OfUnlocked, ScanExamples}
 use Rattle.model.specs.Change.{made, toggle, swap, change, lookFrom}
 use Rattle.model.proofs.Refusal.{none-above}
 use Rattle.model.proofs.Rest.{rest-tested}
@@ -97,3 +98,10 @@ of-unlocked =
           (record { long = refl; bits = record { each = none-above 1 ringDot refl } }) refl refl;
       paper-swap-lowers = refl;
     }
+
+pub scan-examples : ScanExamples
+unfolding sumTo sumFrom tabulate gridAt squareAt psfAt autocorrelation kernel error filteredError filteredErrors
+    squaredError total locked above someBelow badTable wrongStats made toggle swap raised accept statsOf change
+    laterCall toggleScanCall swapScanCall laterRefusal offsetsOf offsetsFrom offsets toggles swapsBy lookFrom tryEach
+    progressOf sweepTo trialsAt scan
+scan-examples = record { pair-toggle-scan = refl; pair-swap-scan = refl; row-swap-scan = refl }

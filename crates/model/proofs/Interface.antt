@@ -1,5 +1,5 @@
 -- The C interface: over slices of the right size its calls are those of document 01.
---   two-behind                               two parts behind the pointers
+--   two-behind, three-behind                 two parts behind the pointers, and three
 --   counted, not-counted                     a call over a slice of so many numbers, and of another number: 5
 --   other-count, measures-draw               what the slice of measures draws, and these
 --   ledger-draws, slices-draw                then that of the ledger; and what slices of the right size draw
@@ -47,9 +47,13 @@ twice b p zero k h = refl
 twice b p (suc n) k h =
     subst (λ j. record { reply = refused (suc n) 0; left = b } ≡ unless j b p) (h (λ e. absurd (omega arith))) refl
 
--- two parts behind the pointers
+-- two parts behind the pointers, and three
 pub two-behind : {A B : Type 0} {a c : A} {b d : B} → a ≡ c → b ≡ d → _≡_ {A = A × B} (a, b) (c, d)
 two-behind e f = λ i. (e i, f i)
+
+pub three-behind : {A B C : Type 0} {a a′ : A} {b b′ : B} {c c′ : C} → a ≡ a′ → b ≡ b′ → c ≡ c′
+    → _≡_ {A = A × B × C} (a, b, c) (a′, b′, c′)
+three-behind e f g = λ i. (e i, f i, g i)
 
 -- ---- a slice of so many numbers, and of another number
 module _ {A B C : Type 0} (n : ℕ) (l : List C) (kept : B) (o : Outcome A B) where

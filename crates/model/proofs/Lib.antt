@@ -18,6 +18,9 @@ pub mod Start
 -- Scans and settling
 pub mod Partners
 pub mod Scan
+pub mod Square
+pub mod Trials
+pub mod Pairs
 pub mod Rest
 pub mod Converge
 -- Refused because of the input, and because of the state
@@ -54,6 +57,7 @@ pub mod Numerals
 pub mod Header
 pub mod WrittenHead
 pub mod Tables
+pub mod Totals
 pub mod Raster
 pub mod Pictures
 pub mod PictureVerdicts

@@ -6,6 +6,8 @@ use Rattle.model.proofs.Psf.{autocorrelation-nonneg, autocorrelation-to
 use Rattle.model.proofs.Halftone.{taken-perceived, taken-nonneg, taken-filtered, taken-squared}
 use Rattle.model.proofs.Change.{toggle-change, swap-change, toggle-moves-table, swap-moves-table, change-least}
 use Rattle.model.proofs.Attempts.{toggle-tries, swap-tries}
+use Rattle.model.proofs.Trials.{all-weighed, weighed-to-accepted, toggle-counts, toggle-few, swap-few}
+use Rattle.model.proofs.Pairs.{quiet-pairs}
 use Rattle.model.proofs.Start.{start-begins}
 use Rattle.model.proofs.Partners.{offsets-ordered}
 use Rattle.model.proofs.Converge.{converge-rule, converge-only}
@@ -30,7 +32,7 @@ use Rattle.model.proofs.Longest.{sheet-most, writing-is-long, filed-mos
 use Rattle.model.proofs.Interface.{counted, not-counted, measures-draw, ledger-draws}
 use Rattle.model.proofs.Interface.{start-over, call-over, over-other-count, call-over-other-count}
 use Rattle.model.proofs.Interface.{toggle-is-told, swap-is-told, measures-read, stored-read, run-over}
-use Rattle.model.proofs.Examples.{examples, one-sided, of-unlocked}
+use Rattle.model.proofs.Examples.{examples, one-sided, of-unlocked, scan-examples}
 use Rattle.model.proofs.Screen.{ordered-locks}
 use Rattle.model.proofs.Lock.{lock-exactly, holds-blank, holds-solid}
 use Rattle.model.proofs.Refusal.{draws-16}
@@ -77,6 +79,12 @@ promises =
         partners-are-ordered = offsets-ordered;
         convergence-keeps-to-rule = converge-rule;
         nothing-else-keeps-to-rule = converge-only;
+        all-are-weighed = all-weighed;
+        weighed-up-to-accepted = weighed-to-accepted;
+        toggle-trials-are-unlocked-cells = toggle-counts;
+        quiet-swap-trials-are-pairs = quiet-pairs;
+        toggle-trials-are-few = toggle-few;
+        swap-trials-are-few = λ t reach p. swap-few t p reach;
       };
       list-promises = λ m psf gray. record {
         demand-3 = demand-3 m psf gray;
@@ -150,4 +158,5 @@ promises =
       examples-hold = examples;
       half-peak-is-one-sided = one-sided;
       rest-is-of-unlocked-cells = of-unlocked;
+      scan-examples-hold = scan-examples;
     }

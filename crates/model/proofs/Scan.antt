@@ -6,7 +6,7 @@
 --   sweep-still                   one that accepts nothing leaves the reference as it was; nothing attempted lowers E
 --   sweep-calm                    and where nothing attempted lowers E, it accepts nothing
 --   sound-kept, sweep-later       later calls accept what a scan leaves
-use mathlib.Core.Bool.{true, not, _&&_, and-eq-true-iff, Bool, false}
+use mathlib.Core.Bool.{true, not, _&&_, and-eq-true-iff}
 use mathlib.Core.List.{List, [], _∷_}
 use mathlib.Core.Path.{_≡_, refl, _∙_, subst, ap, sym}
 use Prim.Native.Nat.{ℕ, zero, suc, _+_, _≤_, _<_}
@@ -29,7 +29,7 @@ use Rattle.model.specs.Partners.{Offset, offsets, lands, partner}
 use Rattle.model.specs.Scan.{Rule, toggles, exchangeable, suits, swapsBy, swaps, Sweep, tryEach, sweepTo, taking}
 use Rattle.model.proofs.Basic.{pick-cases}
 use Rattle.model.specs.Ledger.{changes}
-use Rattle.model.specs.Change.{Move, made, swap, Legal, change, lowers, lookFrom}
+use Rattle.model.specs.Change.{Move, made, swap, Legal, change, lowers, Look, lookFrom}
 use Rattle.model.proofs.Error.{squared-nonneg}
 use Rattle.model.proofs.Ledger.{raised-start, raised-changes}
 use Rattle.model.proofs.State.{below, at-least}
@@ -42,7 +42,7 @@ every : {A : Type 0} (P : A → Type 0) → ((x : A) → P x) → (l : List A) �
 every P h [] = tt
 every P h (x ∷ l) = (h x, every P h l)
 
-all-map : {A : Type 0} {P Q : A → Type 0} → ((x : A) → P x → Q x) → (l : List A) → All P l → All Q l
+pub all-map : {A : Type 0} {P Q : A → Type 0} → ((x : A) → P x → Q x) → (l : List A) → All P l → All Q l
 all-map h [] a = tt
 all-map h (x ∷ l) a = (h x (a .0), all-map h l (a .1))
 
@@ -120,23 +120,23 @@ module _ (t : Target) where
   pub try-step : (s : Sweep) (v : Move) (l : List Move)
       → tryEach t s (v ∷ l) ≡ pick (lowers t (s .after .dots) v) (more s v) (tryEach t s l)
   unfolding tryEach lookFrom
-  try-step s v l = go (lowers t (s .after .dots) v)
+  try-step s v l =
+      pick-cases Steps (lowers t dots v) (λ e. ap (λ b. pick b (more s v) after) (sym e))
+      (λ e. ap (taking s) (same l) ∙ ap (λ b. pick b (more s v) after) (sym e))
     where
       dots : List ℕ
       dots = s .after .dots
 
-      d : ℤ
-      d = change t dots v
+      after : Sweep
+      after = taking s (lookFrom t dots (pos 0) l .taken)
 
       -- which one is taken does not depend on what came before
-      same : (l : List Move) → lookFrom t dots d l .taken ≡ lookFrom t dots (pos 0) l .taken
+      same : (l : List Move) → lookFrom t dots (change t dots v) l .taken ≡ lookFrom t dots (pos 0) l .taken
       same [] = refl
       same (w ∷ l) = refl
 
-      go : (b : Bool) → taking s (pick b (record { taken = v ∷ []; last = d }) (lookFrom t dots d l) .taken)
-          ≡ pick b (more s v) (taking s (lookFrom t dots (pos 0) l .taken))
-      go true = refl
-      go false = ap (taking s) (same l)
+      Steps : Look → Type 0
+      Steps k = taking s (k .taken) ≡ pick (lowers t dots v) (more s v) after
 
   module _ (Q : Sweep → Type 0) where
     -- each of these changes that is accepted after s keeps it

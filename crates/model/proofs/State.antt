@@ -53,7 +53,7 @@ dots-counted (d ∷ dots) h = go (ℕ-discrete d 1) (dots-counted dots (at-most-
     go (no e) ih = omega (arith, h .each 0)
 
 -- ---- the tests of 20 and 21
-not-below : (a b : ℤ) → b ≤ℤ a → ltZ a b ≡ false
+pub not-below : (a b : ℤ) → b ≤ℤ a → ltZ a b ≡ false
 not-below a b h = go (ltZ a b) refl
   where
     go : (x : Bool) → ltZ a b ≡ x → x ≡ false
@@ -62,6 +62,13 @@ not-below a b h = go (ltZ a b) refl
 
 pub below : {a b : ℤ} → ltZ a b ≡ true → a <ℤ b
 below e = record { lt = subst T (sym e) tt }
+
+pub is-below : {a b : ℤ} → a <ℤ b → ltZ a b ≡ true
+is-below {a} {b} h = go (ltZ a b) (h .lt)
+  where
+    go : (x : Bool) → T x → x ≡ true
+    go true k = refl
+    go false k = absurd k
 
 pub at-least : (a b : ℤ) → ltZ a b ≡ false → b ≤ℤ a
 at-least a b h = ltZ-no {a = a} {b = b} (subst (λ x. T (not x)) (sym h) tt)

@@ -12,6 +12,10 @@ abbrev pub pick {ℓ} : {A : Type ℓ} → Bool → A → A → A
 pick true a b = a
 pick false a b = b
 
+-- 1 where the test holds, else 0
+abbrev pub oneIf : Bool → ℕ
+oneIf b = pick b 1 0
+
 -- the test holds of some number below n
 unfoldable pub someBelow : ℕ → (ℕ → Bool) → Bool
 someBelow zero f = false

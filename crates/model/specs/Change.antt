@@ -77,18 +77,21 @@ module _ (t : Target) where
   lowers dots v = ltZ (change dots v) (pos 0)
 
 -- ---- one walk over changes, up to the first that lowers E
--- the one that is taken, if any, and what the last one weighed does to E
+-- those that are weighed, which are the trials; the one that is taken, if any; and what the last one weighed does to E
 pub record Look : Type 0 where
+  pub weighed : List Move
   pub taken : List Move
   pub last : ℤ
 
 module _ (t : Target) (dots : List ℕ) where
   -- after one that does z to E
   unfoldable pub lookFrom : (z : ℤ) → List Move → Look
-  lookFrom z [] = record { taken = []; last = z }
+  lookFrom z [] = record { weighed = []; taken = []; last = z }
   lookFrom z (v ∷ l) =
       let d = change t dots v in
-      pick (lowers t dots v) (record { taken = v ∷ []; last = d }) (lookFrom d l)
+      let k = lookFrom d l in
+      pick (lowers t dots v) (record { weighed = v ∷ []; taken = v ∷ []; last = d })
+      (record { weighed = v ∷ k .weighed; taken = k .taken; last = k .last })
 
   abbrev pub look : List Move → Look
   look = lookFrom (pos 0)

@@ -1,5 +1,6 @@
 -- The starred examples of document 01, as one table: a field for each figure. And plates that show what would be a
--- mistake. `examples`, `one-sided` and `of-unlocked` of proofs/Examples.antt fill the tables by computing the sums.
+-- mistake; and the trials of some scans. `examples`, `one-sided`, `of-unlocked` and `scan-examples` of
+-- proofs/Examples.antt fill the tables by computing the sums.
 use mathlib.Core.Path.{_≡_}
 use mathlib.Core.List.{List, [], _∷_, _++_}
 use Prim.Native.Nat.{ℕ}
@@ -14,7 +15,7 @@ use Rattle.model.specs.Screen.{thresholdAt, startDots}
 use Rattle.model.specs.Change.{toggle, swap, change}
 use Rattle.model.specs.Reference.{Tried, accepted, declined}
 use Rattle.model.specs.Calls.{result, refused, Outcome, Buffers}
-use Rattle.model.specs.Calls.{startCall, toggleCall, swapCall, convergeCall}
+use Rattle.model.specs.Calls.{startCall, toggleCall, swapCall, toggleScanCall, swapScanCall, convergeCall}
 use Rattle.model.specs.Lists.{Rest}
 use Rattle.model.specs.Text.{bytes}
 use Rattle.model.specs.Program.{output}
@@ -196,3 +197,26 @@ pub record OfUnlocked : Type 0 where
   pub dot-ring-rests : (reach : ℕ) → Rest (ring 32) reach ringDot (filteredErrors (ring 32) ringDot)
   -- yet the swap of the dot with the paper would lower E by 65280
   pub paper-swap-lowers : change (ring 32) ringDot (swap ringDot 1 4) ≡ negsuc 65279
+
+-- ---- request C-14: the trials of scans
+-- 4 by 1, r 0, reach 3
+abbrev pub rowMeasures : Measures
+rowMeasures = record { width = 4; height = 1; radius = 0; reach = 3; start = 2 }
+
+pub record ScanExamples : Type 0 where
+  -- gray 100 130, dots 1 0: a toggle scan accepts nothing in 2 trials
+  pub pair-toggle-scan : toggleScanCall pairMeasures even (100 ∷ 130 ∷ []) (1 ∷ 0 ∷ []) (pos 410 ∷ negsuc 159 ∷ [])
+      (stats (pos 84350) (pos 84350) 1 0 0 0)
+      ≡ outcome (record { stats = stats (pos 84350) (pos 84350) 1 0 0 0; changes = 0; trials = 2 })
+      (1 ∷ 0 ∷ []) (pos 410 ∷ negsuc 159 ∷ [])
+  -- a swap scan accepts a swap at the first cell, and weighs it once more from the second
+  pub pair-swap-scan : swapScanCall pairMeasures even (100 ∷ 130 ∷ []) (1 ∷ 0 ∷ []) (pos 410 ∷ negsuc 159 ∷ [])
+      (stats (pos 84350) (pos 84350) 1 0 0 0)
+      ≡ outcome (record { stats = stats (pos 84350) (pos 53750) 1 0 0 1; changes = 1; trials = 2 })
+      (0 ∷ 1 ∷ []) (negsuc 99 ∷ pos 350 ∷ [])
+  -- p 1, gray 200 10 10 10, dots 0 1 1 1: the blank goes to the farthest, so the cells after it have 1, 1 and 3 trials by
+  -- the dots that are left, where by the first dots they would have 1 each
+  pub row-swap-scan : swapScanCall rowMeasures (1 ∷ []) (200 ∷ 10 ∷ 10 ∷ 10 ∷ []) (0 ∷ 1 ∷ 1 ∷ 1 ∷ [])
+      (negsuc 199 ∷ pos 245 ∷ pos 245 ∷ pos 245 ∷ []) (stats (pos 220075) (pos 220075) 3 0 0 0)
+      ≡ outcome (record { stats = stats (pos 220075) (pos 123175) 3 0 0 1; changes = 1; trials = 6 })
+      (1 ∷ 1 ∷ 1 ∷ 0 ∷ []) (pos 55 ∷ pos 245 ∷ pos 245 ∷ negsuc 9 ∷ [])

@@ -185,12 +185,12 @@ pub record Told (dots : List ℕ) (table stats : List ℤ) (a : Tried) (left : B
   pub else-kept : pos 0 ≤ℤ changeOf a
       → (left .dots ≡ dots) × (left .table ≡ table) × (triedNumbers stats a ≡ stats)
 
--- a scan: the ledger, and behind the pointers with it the changes accepted
+-- a scan: the ledger, and behind the pointers with it the changes accepted and the trials
 abbrev pub scanNumbers : ScanResult → List ℤ
 scanNumbers r = statsNumbers (r .stats)
 
-abbrev pub scanBehind : Reply ScanResult → List ℤ × ℕ → List ℤ × ℕ
-scanBehind r (l, n) = (after scanNumbers l r, after (λ done. done .changes) n r)
+abbrev pub scanBehind : Reply ScanResult → List ℤ × ℕ × ℕ → List ℤ × ℕ × ℕ
+scanBehind r (l, n, k) = (after scanNumbers l r, after (λ done. done .changes) n r, after (λ done. done .trials) k r)
 
 -- a settling: the ledger, and with it the scans
 abbrev pub convergeNumbers : ConvergeResult → List ℤ
@@ -306,4 +306,4 @@ pictureBehind r (w, h) = (after (λ z. z .width) w r, after (λ z. z .height) h 
 
 -- ---- the version of the library: 1,000,000 × major + 1,000 × minor + patch
 abbrev pub version : ℕ
-version = 1000000 * 2 + 1000 * 0 + 0
+version = 1000000 * 3 + 1000 * 0 + 0

@@ -4,12 +4,13 @@ use mathlib.Core.Bool.{Bool, _&&_}
 use mathlib.Core.List.{List, [], _∷_, _++_, List·Memᴰ as In}
 use mathlib.Core.Path.{_≡_}
 use Prim.Native.Nat.{ℕ, zero, suc, _+_, _*_, _/_, _%_, _≤_, _<_}
-use lib.Dec.{eqb}
+use lib.Dec.{eqb, leb}
 use lib.IntN.{ℤ, pos, natAbs, _+ℤ_, _-ℤ_}
 use lib.ListN.{length, getD}
 use lib.Signed.{leZ, ltZ, _<ℤ_}
 use Rattle.model.specs.Basic.{pick}
 use Rattle.model.specs.Error.{cellAt}
+use Rattle.model.specs.Refusal.{gap}
 
 -- rows down, columns right
 pub record Offset : Type 0 where
@@ -85,3 +86,7 @@ inside limit z = leZ (pos 0) z && ltZ z (pos limit)
 -- it lands on the plate
 abbrev pub lands : (width height : ℕ) → ℕ → Offset → Bool
 lands width height m o = inside height (partnerRow width m o) && inside width (partnerColumn width m o)
+
+-- ---- two cells within reach of one another: they differ by at most the reach in row and in column
+abbrev pub nearBy : (width reach : ℕ) → ℕ → ℕ → Bool
+nearBy width reach m n = leb (gap (m / width) (n / width)) reach && leb (gap (m % width) (n % width)) reach

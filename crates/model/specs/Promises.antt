@@ -2,7 +2,7 @@
 -- document 02 stand in files of their own and are among them. That they hold is `promises` of proofs/Main.antt. That
 -- the public calls answer and leave just what is said here stands in their contracts, which cite the same definitions.
 use mathlib.Core.Path.{_≡_}
-use mathlib.Core.Bool.{true}
+use mathlib.Core.Bool.{true, not, _&&_}
 use mathlib.Core.Logic.{_⊎_}
 use mathlib.Core.List.{List, [], _∷_, _++_, filter}
 use Prim.Native.Nat.{ℕ, _+_, _*_, _-_, _/_, _%_, _≤_, _<_}
@@ -16,7 +16,7 @@ use Rattle.model.specs.declared.Measures.{Measures}
 use Rattle.model.specs.declared.Stats.{Stats}
 use Rattle.model.specs.declared.ConvergeResult.{ConvergeResult}
 use Rattle.model.specs.declared.Item.the-variants.{Number, Other}
-use Rattle.model.specs.Basic.{Exactly, AtMost, All}
+use Rattle.model.specs.Basic.{Exactly, AtMost, All, oneIf, tabulate}
 use Rattle.model.specs.Psf.{total, autocorrelation, peak}
 use Rattle.model.specs.Error.{Target, targetOf, targetFor, cellAt, cells, kernel, Halftone}
 use Rattle.model.specs.Error.{filteredError, filteredErrors, squaredError, perceivedSquares}
@@ -24,11 +24,11 @@ use Rattle.model.specs.Lock.{locked, LocksHold}
 use Rattle.model.specs.Refusal.{firstOf, badMeasures, badLocks, halftoneRefusal, writeRefusal}
 use Rattle.model.specs.Ledger.{changes, ledgerDots, fallOf, dotTotal, counted}
 use Rattle.model.specs.State.{badTable, badStats, StateFits, laterRefusal}
-use Rattle.model.specs.Change.{sign, Move, Placed, made, toggle, swap, change}
+use Rattle.model.specs.Change.{sign, Move, Placed, made, toggle, swap, change, look}
 use Rattle.model.specs.Reference.{Reference, reference, statsOf}
 use Rattle.model.specs.Reference.{Tried, accepted, declined, attempt}
-use Rattle.model.specs.Partners.{Ordered}
-use Rattle.model.specs.Scan.{Convergence, turn, convergeFrom}
+use Rattle.model.specs.Partners.{Ordered, nearBy}
+use Rattle.model.specs.Scan.{Convergence, turn, convergeFrom, toggles, exchangeable, swaps, scan}
 use Rattle.model.specs.Screen.{startDots}
 use Rattle.model.specs.Calls.{Reply, result, refused, Outcome, Buffers, startCall, toggleCall, swapCall}
 use Rattle.model.specs.Lists.{Call, convergence, Result, tried, rested, Held, latest, handOn, call, run}
@@ -44,7 +44,7 @@ use Rattle.model.specs.FiledPromises.{FiledPromises}
 use Rattle.model.specs.Interface.{measuresSize, measuresIn, statsSize, statsNumbers, statsIn, sliceRefusal}
 use Rattle.model.specs.Interface.{startOver, toggleOver, swapOver, readOver, writeOver, Told, longestSheet}
 use Rattle.model.specs.Interface.{Slices, slicesOf, heldIn, callOver, runOver}
-use Rattle.model.specs.Examples.{Examples, OneSided, OfUnlocked}
+use Rattle.model.specs.Examples.{Examples, OneSided, OfUnlocked, ScanExamples}
 
 -- ---- Plate, spread and peak: of any psf
 module _ (r : ℕ) (psf : List ℕ) where
@@ -202,6 +202,26 @@ pub record ScanPromises : Type 0 where
       → ((p : Reference) (n : ℕ) → Halftone t (p .dots) → f p n ≡ turn t reach f p n)
       → (p : Reference) (n : ℕ) → Halftone t (p .dots)
       → f p n ≡ convergeFrom t reach p n
+  -- ---- trials (02, C-14): the changes weighed at each cell
+  -- where no change that is attempted there lowers E, all are weighed; else those up to and with the first that does
+  pub all-are-weighed : (t : Target) (dots : List ℕ) (l : List Move) → All (λ v. pos 0 ≤ℤ change t dots v) l
+      → look t dots l .weighed ≡ l
+  pub weighed-up-to-accepted : (t : Target) (dots : List ℕ) (before : List Move) (v : Move) (others : List Move)
+      → All (λ v. pos 0 ≤ℤ change t dots v) before → change t dots v <ℤ pos 0
+      → look t dots (before ++ (v ∷ others)) .weighed ≡ before ++ (v ∷ [])
+  -- a toggle scan makes one for each unlocked cell, whatever the dots
+  pub toggle-trials-are-unlocked-cells : (t : Target) (p : Reference)
+      → scan t (toggles t) p .answer .trials ≡ total (tabulate (cells t) (λ n. oneIf (not (locked (t .gray) n))))
+  -- a swap scan that accepts nothing makes one for each cell and each other within reach, both unlocked, dots unlike
+  pub quiet-swap-trials-are-pairs : (t : Target) (reach : ℕ) (p : Reference)
+      → scan t (swaps t reach) p .answer .changes ≡ 0
+      → scan t (swaps t reach) p .answer .trials
+      ≡ total (tabulate (cells t) (λ m. total (tabulate (cells t) (λ n.
+      oneIf (nearBy (t .width) reach m n && exchangeable t (p .dots) m n)))))
+  -- at most width × height, and width × height × ((2 × reach + 1)² - 1) for swaps
+  pub toggle-trials-are-few : (t : Target) (p : Reference) → scan t (toggles t) p .answer .trials ≤ t .width * t .height
+  pub swap-trials-are-few : (t : Target) (reach : ℕ) (p : Reference)
+      → scan t (swaps t reach) p .answer .trials ≤ t .width * t .height * ((2 * reach + 1) * (2 * reach + 1) - 1)
 
 -- ---- Lists of calls: demand 3
 module _ (m : Measures) (psf gray : List ℕ) where
@@ -418,3 +438,5 @@ pub record Promises : Type 0 where
   -- rest is of unlocked cells: plates at rest, at every reach, where at bare paper a toggle lowers E, a swap does, and the
   -- bound of blanks is broken
   pub rest-is-of-unlocked-cells : OfUnlocked
+  -- the trials of scans, one of them where the dots at the start of the scan would give another number
+  pub scan-examples-hold : ScanExamples

@@ -4,14 +4,15 @@ use mathlib.Core.List.{List, [], _∷_}
 use Prim.Native.Nat.{ℕ, zero, suc, _+_}
 use lib.Dec.{eqb}
 use lib.IntN.{natAbs}
-use lib.ListN.{getD}
+use lib.ListN.{length, getD}
 use Rattle.model.specs.declared.Progress.{Progress}
 use Rattle.model.specs.declared.ScanResult.{ScanResult}
 use Rattle.model.specs.declared.ConvergeResult.{ConvergeResult}
-use Rattle.model.specs.Basic.{pick}
+use Rattle.model.specs.Basic.{pick, tabulate}
 use Rattle.model.specs.Error.{Target, cells, squaredError}
 use Rattle.model.specs.Lock.{locked}
 use Rattle.model.specs.Partners.{Offset, offsets, lands, partner}
+use Rattle.model.specs.Psf.{total}
 use Rattle.model.specs.Reference.{Reference, Performed, accept, statsOf}
 use Rattle.model.specs.Change.{Move, toggle, swap, look}
 
@@ -52,9 +53,9 @@ abbrev pub taking : Sweep → List Move → Sweep
 taking s [] = s
 taking s (v ∷ l) = record { after = accept (s .after) v; changes = suc (s .changes) }
 
--- a scan answers what it has come to
-abbrev pub resultOf : Progress → ScanResult
-resultOf r = record { stats = r .stats; changes = r .changes }
+-- a scan answers what it has come to, and its trials
+abbrev pub resultOf : Progress → (trials : ℕ) → ScanResult
+resultOf r n = record { stats = r .stats; changes = r .changes; trials = n }
 
 -- a settling under way: the reference, and the scans that it has made
 pub record Convergence : Type 0 where
@@ -79,8 +80,20 @@ module _ (t : Target) where
   abbrev pub sweep : Rule → Reference → Sweep
   sweep rule p = sweepTo rule p (cells t)
 
+  -- its trials at cell m: what is weighed there, up to and with the change accepted
+  unfoldable pub trialsAt : Rule → Reference → ℕ → ℕ
+  trialsAt rule p m = let dots = sweepTo rule p m .after .dots in length (look t dots (rule dots m) .weighed)
+
+  -- at the first n cells
+  abbrev pub trialsTo : Rule → Reference → ℕ → ℕ
+  trialsTo rule p n = total (tabulate n (trialsAt rule p))
+
   unfoldable pub scan : Rule → Reference → Performed ScanResult
-  scan rule p = record { answer = resultOf (progressOf (sweep rule p)); after = sweep rule p .after }
+  scan rule p =
+      record {
+        answer = resultOf (progressOf (sweep rule p)) (trialsTo rule p (cells t));
+        after = sweep rule p .after;
+      }
 
   module _ (reach : ℕ) where
     -- toggle scans until one accepts nothing, then one swap scan; if that accepted something, again from the toggle

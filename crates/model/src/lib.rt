@@ -72,10 +72,11 @@ pub enum Attempt {
     Refused(u32),
 }
 
-// What a scan answers: the new ledger and the changes that it accepted.
+// What a scan answers: the new ledger, the changes that it accepted, and its trials, the changes that its rule weighs.
 pub struct ScanResult {
     pub stats: Stats,
     pub changes: u64,
+    pub trials: u64,
 }
 
 // The answer of a scan: its result, or refused with the number of document 01.
@@ -159,6 +160,12 @@ pub enum Checked {
 pub struct Progress {
     pub stats: Stats,
     pub changes: u64,
+}
+
+// The same at the end of a scan, with its trials.
+pub struct Counted {
+    pub progress: Progress,
+    pub trials: u64,
 }
 
 // What a reader finds next in a text: a word, a number (257 stands for all above 256), a line end, or none of these.
