@@ -1,0 +1,2 @@
+-- What the counting of swaps adds up.
+pub mod Marks
