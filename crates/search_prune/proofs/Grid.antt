@@ -1,14 +1,16 @@
 -- What the offsets are worth in rows; and rows in which every trial fails, one after the other.
 --   row-length-fits                 a row holds what the reach asks, and is short
 --   worth-in-small                  each entry is small
+--   sums-fail                       where no sum of a cell is below 0, its trials fail
 --   rows-none, rows-more, rows-all  no row yet, one row more, all rows within reach
+use mathlib.Core.Bool.{not, and-false}
 use mathlib.Core.List.{List}
 use mathlib.Core.Path.{_≡_}
 use Prim.Native.Nat.{ℕ, _+_, _*_, _-_, _/_, _%_, _≤_, _<_, min}
 use native.Mathlib.Decide.{ℕ-discrete}
 use native.Mathlib.Omega.{arith}
 use borrow.Author.Tests.{ltb-true}
-use lib.Dec.{leb, ltb, lit≤}
+use lib.Dec.{eqb, leb, ltb, lit≤}
 use lib.IntN.{ℤ, pos, natAbs}
 use lib.ListN.{getD}
 use Rattle.model.specs.Error.{cellAt}
@@ -16,7 +18,7 @@ use Rattle.model.proofs.Basic.{pick-cases}
 use Rattle.invariants.specs.Window.{Small, mostKernel, mostWorth}
 use Rattle.invariants.proofs.Partners.{worth-small}
 use Rattle.search_runs.specs.Run.{Fails}
-use Rattle.search_prune.specs.Grid.{rowLength, worthIn, RunClear, RowsClear}
+use Rattle.search_prune.specs.Grid.{rowLength, worthIn, RunClear, SumsClear, RowsClear}
 
 pub row-length-fits : {reach : ℕ} → reach ≤ 6 → (2 * reach + 1 ≤ rowLength reach) × (rowLength reach ≤ 16)
 unfolding rowLength
@@ -32,6 +34,16 @@ worth-in-small radius small reach q =
     (λ e. worth-small radius small (q / rowLength reach + 6 - reach) (q % rowLength reach + 6 - reach)) (λ e. lit≤ tt)
 
 -- ---- trials that fail
+-- those of a cell m with that dot byte and that entry of the table, where none of its sums is below 0
+pub sums-fail : {dots : List ℕ} {table grid : List ℤ} {dot m from at n : ℕ} {value : ℤ}
+    → dot ≡ getD dots m 0 → value ≡ getD table m (pos 0)
+    → SumsClear dot value table grid from at n → RunClear dots table grid m from at n
+sums-fail {dots} {m} {from} same-dot same-value clear = record {
+  each = λ k h.
+      rw (rw (same-dot, same-value) at (clear .each k h))
+      (and-false (not (eqb (getD dots m 0) (getD dots (from + k) 0))));
+}
+
 module _ {width reach : ℕ} {dots : List ℕ} {table grid : List ℤ} {row col : ℕ} where
   -- no row yet
   pub rows-none : RowsClear width (row - reach) reach dots table grid row col

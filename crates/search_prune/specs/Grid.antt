@@ -1,12 +1,15 @@
 -- What the offsets within reach are worth, laid out in rows, and what it means that every trial in them fails. The
 -- rows may be longer than the reach asks, so that a row is a round number of entries.
+use mathlib.Core.Bool.{false}
 use mathlib.Core.List.{List}
 use mathlib.Core.Path.{_≡_}
 use Prim.Native.Nat.{ℕ, _+_, _*_, _-_, _/_, _%_, _≤_, _<_}
 use lib.Dec.{leb, ltb}
-use lib.IntN.{ℤ, pos}
+use lib.IntN.{ℤ, pos, _+ℤ_, _-ℤ_, _*ℤ_}
 use lib.ListN.{length, getD}
+use lib.Signed.{ltZ}
 use Rattle.model.specs.Basic.{pick}
+use Rattle.model.specs.Change.{signOf}
 use Rattle.model.specs.Error.{cellAt}
 use Rattle.invariants.specs.Partners.{worthAt}
 use Rattle.invariants.specs.Window.{Small, mostWorth}
@@ -34,6 +37,12 @@ pub record GridFits (radius : ℕ) (c : List ℤ) (reach : ℕ) (grid : List ℤ
   pub long : length grid ≡ gridSize reach
   pub small : Small mostWorth grid
   pub at : (q : ℕ) → q < gridSize reach → getD grid q (pos 0) ≡ worthIn radius c reach q
+
+-- the sum s × (value - T) + worth is not below 0 with each of the n cells from `from` on, the worths standing from `at`
+-- on, where s is that of a cell with that dot byte
+pub record SumsClear (dot : ℕ) (value : ℤ) (table grid : List ℤ) (from at n : ℕ) : Type 0 where
+  pub each : (k : ℕ) → k < n
+      → ltZ (signOf dot *ℤ (value -ℤ getD table (from + k) (pos 0)) +ℤ getD grid (at + k) (pos 0)) (pos 0) ≡ false
 
 module _ (dots : List ℕ) (table grid : List ℤ) (m from at n : ℕ) where
   -- m can be tried with each of the n cells from `from` on, the worths standing from `at` on

@@ -2,20 +2,22 @@
 // lower the squared error. Where none does, the trials in order can be left out.
 ghost use mathlib.Core.Bool.{true, false};
 ghost use mathlib.Core.Path.{_≡_};
-ghost use Prim.Native.Nat.{_*_, _<_, _≤_};
-ghost use lib.IntN.{pos};
-ghost use lib.ListN.{length};
+ghost use Prim.Native.Nat.{_+_, _*_, _<_, _≤_};
+ghost use lib.IntN.{pos, natAbs};
+ghost use lib.ListN.{length, getD};
 ghost use Rattle.model.specs.Basic.{squareAt};
+ghost use Rattle.model.specs.Error.{mostFiltered};
 ghost use Rattle.invariants.specs.Window.{Small, HoldsSquare, mostWorth};
 ghost use Rattle.search_runs.specs.Run.{Tabled};
-ghost use Rattle.search_prune.specs.Grid.{rowLength, gridSize, worthIn, GridFits, RunTest, RunClear, RowsClear};
+ghost use Rattle.search_prune.specs.Grid.{rowLength, gridSize, worthIn, GridFits};
+ghost use Rattle.search_prune.specs.Grid.{RunTest, RunClear, SumsClear, RowsClear};
 use filter_window::high;
 use filter_window::low;
 use model::Cell;
 use search_change::between;
-use search_change::difference;
 use search_change::lower_swap;
 use search_change::peak;
+use search_change::signed;
 use slices::index;
 
 // the largest size of what an offset is worth: no difference of two table entries outweighs it
@@ -72,23 +74,25 @@ pub fn lay_worths(radius: usize, c: &[i32], reach: usize, grid: &mut [i32])
     }
 }
 
-// whether the sum of a trial of m is below 0 with one of the n cells from `from` on
+// whether the sum of a trial is below 0 with one of the n cells from `from` on, of a cell with that dot byte and that
+// entry of the table
 fn any_below(
-    dots: &[u8],
+    dot: u8,
+    value: i32,
     table: &[i32],
-    m: usize,
     from: usize,
     grid: &[i32],
     at: usize,
     n: usize,
 ) -> bool
-    requires { ⌜ RunTest (now dots) (now table) (now grid) m from at n ⌝ }
-    ensures { λ r. ⌜ (r ≡ false → RunClear (now (dots .entry)) (now (table .entry)) (now (grid .entry)) m from at n) ⌝ }
+    requires { ⌜ (from + n ≤ length (now table)) × (at + n ≤ length (now grid)) ⌝ }
+    requires { ⌜ (natAbs value ≤ mostFiltered) × Small mostFiltered (now table) × Small mostWorth (now grid) ⌝ }
+    ensures { λ r. ⌜ (r ≡ false → SumsClear dot value (now (table .entry)) (now (grid .entry)) from at n) ⌝ }
 {
     let mut any = false;
     let mut k: usize = 0;
     while k < n {
-        let sum = difference(dots, table, m, from + k) + grid[at + k];
+        let sum = signed(dot, value - table[from + k]) + grid[at + k];
         if sum < 0 {
             any = true;
         }
@@ -122,6 +126,8 @@ fn any_lower(
 
 // the same, by the sums first: there is seldom one below 0
 fn row_lowers(
+    dot: u8,
+    value: i32,
     dots: &[u8],
     table: &[i32],
     m: usize,
@@ -130,10 +136,11 @@ fn row_lowers(
     at: usize,
     n: usize,
 ) -> bool
+    requires { ⌜ (dot ≡ getD (now dots) m 0) × (value ≡ getD (now table) m (pos 0)) ⌝ }
     requires { ⌜ RunTest (now dots) (now table) (now grid) m from at n ⌝ }
     ensures { λ r. ⌜ (r ≡ false → RunClear (now (dots .entry)) (now (table .entry)) (now (grid .entry)) m from at n) ⌝ }
 {
-    if any_below(dots, table, m, from, grid, at, n) {
+    if any_below(dot, value, table, from, grid, at, n) {
         return any_lower(dots, table, m, from, grid, at, n);
     }
     false
@@ -160,6 +167,8 @@ pub fn may_lower(
     let row = at.row;
     let col = at.col;
     let m = index(width, at);
+    let dot = dots[m];
+    let value = table[m];
     let bottom = high(row, reach, height);
     let mut y = low(row, reach);
     while y < bottom {
@@ -172,7 +181,7 @@ pub fn may_lower(
             return true;
         }
         let first = (y + reach - row) * side;
-        if row_lowers(dots, table, m, from, grid, first, side) {
+        if row_lowers(dot, value, dots, table, m, from, grid, first, side) {
             return true;
         }
         y += 1;

@@ -1,30 +1,88 @@
 -- `search_prune::any_below` meets its contract: as long as nothing was found, no sum so far is below 0.
 use mathlib.Core.Bool.{false}
-use mathlib.Core.Path.{_≡_}
-use Prim.Native.Nat.{_+_, _-_, _≤_}
+use mathlib.Core.Path.{_≡_, refl}
+use Prim.Native.Nat.{_+_, _*_, _-_, _≤_}
 use native.Mathlib.Omega.{arith}
 use borrow.Author.Count.{below-none, below-more}
-use Rattle.search_runs.proofs.Run.{raised, worth-held, sum-fits, unlower}
-use Rattle.search_prune.specs.Grid.{RunClear}
+use lib.Dec.{lit<}
+use lib.IntN.{ℤ, pos, _-ℤ_, _*ℤ_}
+use lib.ListN.{getD}
+use mir.Syntax.{w32}
+use mir.Val.{toZ, ofZ}
+use Rattle.algebra.proofs.Machine.{Holds, of-small, size-of, add-fits, add-holds, sub-fits, sub-holds}
+use Rattle.model.specs.Change.{signOf}
+use Rattle.model.specs.Error.{mostFiltered}
+use Rattle.invariants.specs.Window.{mostWorth}
+use Rattle.search_change.proofs.Signs.{signed-holds}
+use Rattle.search_runs.proofs.Run.{raised, worth-held}
+use Rattle.search_prune.specs.Grid.{SumsClear}
 use Rattle.search_prune.proofs.any_below.Statement.{statement}
 use Rattle.search_prune.proofs.any_below.Tie as tie
 
 abbrev Inv-loop : tie.InvT-loop
-Inv-loop dots table m from grid at n any₀ k₀ any k =
-    (any ≡ false → RunClear dots table grid m from at k) × (k ≤ n)
+Inv-loop dot value table from grid at n any₀ k₀ any k =
+    (any ≡ false → SumsClear dot (toZ w32 value) table grid from at k) × (k ≤ n)
 
 abbrev μ-loop : tie.MeasureT-loop
-μ-loop dots table m from grid at n any₀ k₀ any k = n - k
+μ-loop dot value table from grid at n any₀ k₀ any k = n - k
 
 loop-holds : tie.Need-loop-holds Inv-loop μ-loop
 loop-holds c = (λ e. record { each = below-none _ }, omega arith)
 
-add-difference : tie.Need-add-difference Inv-loop μ-loop
-add-difference c = omega arith
+add-signed : tie.Need-add-signed Inv-loop μ-loop
+add-signed c = omega arith
 
-difference-requires : tie.Need-difference-requires Inv-loop μ-loop
-difference-requires c κs =
-    let s : tie.Start Inv-loop μ-loop = search in ((omega arith, omega arith, omega arith), s .pre .tabled .small)
+mul-signed : tie.Need-mul-signed Inv-loop μ-loop
+mul-signed c = omega arith
+
+shared-slice-copy-out-signed : tie.Need-shared-slice-copy-out-signed Inv-loop μ-loop
+shared-slice-copy-out-signed c = omega arith
+
+-- the cell's entry of the table, as its local holds it
+read : (s : tie.Start Inv-loop μ-loop) → Holds w32 (ofZ w32 (s .args .value)) (s .args .value) mostFiltered
+read s = of-small w32 (s .args .value) (s .pre .1 .0) (lit< tt)
+
+-- the two entries and the worth, likewise
+module _ (l : tie.At-loop Inv-loop μ-loop) where
+  abbrev s : tie.Start Inv-loop μ-loop
+  s = search
+
+  abbrev here : ℤ
+  here = toZ w32 (ofZ w32 (s .args .value))
+
+  abbrev there : ℤ
+  there = getD (s .args .table .now) (s .args .from + l .loop .k) (pos 0)
+
+  abbrev worth : ℤ
+  worth = getD (s .args .grid .now) (s .args .at + l .loop .k) (pos 0)
+
+  here-held : Holds w32 (ofZ w32 (s .args .value)) here mostFiltered
+  here-held = record { value = refl; size = size-of (read s) }
+
+  there-held : Holds w32 (ofZ w32 there) there mostFiltered
+  there-held = of-small w32 there (s .pre .1 .1 .each (s .args .from + l .loop .k)) (lit< tt)
+
+  last-held : Holds w32 (ofZ w32 worth) worth mostWorth
+  last-held = worth-held (s .pre .1 .2) (s .args .at + l .loop .k)
+
+sub-signed : tie.Need-sub-signed Inv-loop μ-loop
+sub-signed c =
+    let l : tie.At-loop Inv-loop μ-loop = search in sub-fits (here-held l) (there-held l) (lit< tt)
+
+signed-requires : tie.Need-signed-requires Inv-loop μ-loop
+signed-requires c κs =
+    let l : tie.At-loop Inv-loop μ-loop = search in size-of (sub-holds (here-held l) (there-held l) (lit< tt))
+
+-- the first term of the sum
+module _ (d : tie.After-signed Inv-loop μ-loop) where
+  abbrev l : tie.At-loop Inv-loop μ-loop
+  l = search
+
+  first-held : Holds w32 (ofZ w32 (d .signed .result)) (signOf (s l .args .dot) *ℤ (here l -ℤ there l))
+      (2 * mostFiltered)
+  first-held =
+      signed-holds (d .signed .result) (signOf (s l .args .dot)) (sub-holds (here-held l) (there-held l) (lit< tt))
+      (lit< tt) (d .signed .ensures)
 
 add-sum : tie.Need-add-sum Inv-loop μ-loop
 add-sum c = omega arith
@@ -37,10 +95,7 @@ shared-slice-copy-out-sum c = omega arith
 
 add-sum-2 : tie.Need-add-sum-2 Inv-loop μ-loop
 add-sum-2 c =
-    let s : tie.Start Inv-loop μ-loop = search in
-    let l : tie.At-loop Inv-loop μ-loop = search in
-    let d : tie.After-difference Inv-loop μ-loop = search in
-    sum-fits (d .difference .result) (d .difference .ensures .1) (worth-held (s .pre .small) (s .args .at + l .loop .k))
+    let d : tie.After-signed Inv-loop μ-loop = search in add-fits (first-held d) (last-held (l d)) (lit< tt)
 
 add-k : tie.Need-add-k Inv-loop μ-loop
 add-k c = omega arith
@@ -50,15 +105,12 @@ loop-less c = omega arith
 
 loop-again : tie.Need-loop-again Inv-loop μ-loop
 loop-again c =
-    let s : tie.Start Inv-loop μ-loop = search in
-    let l : tie.At-loop Inv-loop μ-loop = search in
-    let d : tie.After-difference Inv-loop μ-loop = search in (
-      raised (c .if1 .came) (l .loop .inv .0) (λ w r.
+    let d : tie.After-signed Inv-loop μ-loop = search in (
+      raised (c .if1 .came) (l d .loop .inv .0) (λ w r.
           record {
             each =
                 below-more _ _ (r .each)
-                (unlower (s .args .dots .now) (s .args .table .now) (s .args .m) (s .args .from + l .loop .k)
-                (d .difference .ensures) (worth-held (s .pre .small) (s .args .at + l .loop .k)) (w .left));
+                (rw (add-holds (first-held d) (last-held (l d)) (lit< tt) .value) at (w .left));
           }),
       omega arith,
     )
@@ -68,7 +120,7 @@ returns c e =
     let s : tie.Start Inv-loop μ-loop = search in
     let l : tie.At-loop Inv-loop μ-loop = search in
     let done : l .loop .k ≡ s .args .n = omega arith in
-    rw done at (l .loop .inv .0 e)
+    rw (read s .value, done) at (l .loop .inv .0 e)
 
 pub any-below-spec : {M : Type 1} → statement M
 any-below-spec =
@@ -77,8 +129,11 @@ any-below-spec =
     Inv-loop
     μ-loop
     loop-holds
-    add-difference
-    difference-requires
+    add-signed
+    mul-signed
+    shared-slice-copy-out-signed
+    sub-signed
+    signed-requires
     add-sum
     mul-sum
     shared-slice-copy-out-sum

@@ -1,9 +1,14 @@
 -- `search_prune::may_lower` meets its contract: the rows above y are clear. The measure is what is left of the rows.
 use mathlib.Core.Bool.{true≢false}
+use mathlib.Core.Path.{_≡_, refl}
 use Prim.Native.Nat.{_+_, _*_, _-_, _≤_, _<_}
 use native.Mathlib.Nat.{mul-le-mul}
 use native.Mathlib.Omega.{arith}
 use borrow.Author.Needs.{needs}
+use lib.IntN.{pos}
+use lib.ListN.{length, getD}
+use mir.Syntax.{w32}
+use mir.Val.{toZ, ofZ}
 use Rattle.algebra.proofs.Grid.{cell<, rows-apart}
 use Rattle.algebra.proofs.Machine.{factors-fit}
 use Rattle.filter_window.proofs.Rows.{index-fits}
@@ -13,17 +18,37 @@ use Rattle.search_prune.proofs.may_lower.Statement.{statement}
 use Rattle.search_prune.proofs.may_lower.Tie as tie
 
 abbrev Inv-loop : tie.InvT-loop
-Inv-loop width height reach grid dots table side row col m bottom y₀ y =
+Inv-loop width height reach grid dots table side row col m dot value bottom y₀ y =
     (row ≤ y + reach) × RowsClear width y reach dots table grid row col
 
 abbrev μ-loop : tie.MeasureT-loop
-μ-loop width height reach grid dots table side row col m bottom y₀ y = bottom - y
+μ-loop width height reach grid dots table side row col m dot value bottom y₀ y = bottom - y
 
 row-length-requires : tie.Need-row-length-requires Inv-loop μ-loop
 row-length-requires c κs = search needs
 
 index-requires : tie.Need-index-requires Inv-loop μ-loop
 index-requires c κs = (omega arith, omega arith, omega arith)
+
+-- the cell is on the plate
+module _ (p : tie.After-index Inv-loop μ-loop) where
+  abbrev s : tie.Start Inv-loop μ-loop
+  s = search
+
+  on-plate : p .index .result < length (s .args .dots .now)
+  on-plate = omega (arith, p .index .ensures, cell< (s .pre .0 .0) (s .pre .0 .1))
+
+  in-table : p .index .result < length (s .args .table .now)
+  in-table = omega (arith, on-plate, s .pre .1 .0 .0 .long)
+
+shared-slice-read-dot : tie.Need-shared-slice-read-dot Inv-loop μ-loop
+shared-slice-read-dot c = let p : tie.After-index Inv-loop μ-loop = search in on-plate p
+
+mul-value : tie.Need-mul-value Inv-loop μ-loop
+mul-value c = let p : tie.After-index Inv-loop μ-loop = search in omega (arith, in-table p)
+
+shared-slice-copy-out-value : tie.Need-shared-slice-copy-out-value Inv-loop μ-loop
+shared-slice-copy-out-value c = let p : tie.After-index Inv-loop μ-loop = search in in-table p
 
 high-requires : tie.Need-high-requires Inv-loop μ-loop
 high-requires c κs = search needs
@@ -77,14 +102,18 @@ row-lowers-requires c κs =
     let r : tie.After-row-length Inv-loop μ-loop = search in
     let p : tie.After-index Inv-loop μ-loop = search in
     let l : tie.At-loop Inv-loop μ-loop = search in
-    let last : l .loop .y + s .args .reach - s .args .at .row < 2 * s .args .reach + 1 = omega arith in
-    record {
-      tabled = s .pre .1 .0 .0;
-      here = omega (arith, p .index .ensures, cell< (s .pre .0 .0) (s .pre .0 .1));
-      there = omega arith;
-      laid = rw (r .row-length .ensures) (omega (arith, rows-apart (rowLength (s .args .reach)) last));
-      small = s .pre .1 .1 .1;
-    }
+    let value = getD (s .args .table .now) (p .index .result) (pos 0) in
+    let read : toZ w32 (ofZ w32 value) ≡ value = search needs in
+    let last : l .loop .y + s .args .reach - s .args .at .row < 2 * s .args .reach + 1 = omega arith in (
+      (refl, read),
+      record {
+        tabled = s .pre .1 .0 .0;
+        here = on-plate p;
+        there = omega arith;
+        laid = rw (r .row-length .ensures) (omega (arith, rows-apart (rowLength (s .args .reach)) last));
+        small = s .pre .1 .1 .1;
+      },
+    )
 
 returns-3 : tie.Need-returns-3 Inv-loop μ-loop
 returns-3 c e = absurd (true≢false e)
@@ -120,6 +149,9 @@ may-lower-spec =
     μ-loop
     row-length-requires
     index-requires
+    shared-slice-read-dot
+    mul-value
+    shared-slice-copy-out-value
     high-requires
     low-requires
     loop-holds
