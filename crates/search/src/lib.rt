@@ -19,7 +19,8 @@ use search_converge::come_to_rest;
 use search_judge::judge_scan;
 use search_judge::judge_swap;
 use search_judge::judge_toggle;
-use search_swaps::swap_all;
+use search_swaps::swap_counted;
+use search_tally::unlocked;
 use search_toggles::toggle_all;
 use search_trial::swap;
 use search_trial::toggle;
@@ -100,18 +101,19 @@ pub fn try_swap(
     swap(measures, psf, gray, &c, dots, table, stats, at, to)
 }
 
-// What a scan answers, having come to that.
-fn result_of(progress: Progress) -> ScanResult
-    ensures { λ r. ⌜ r ≡ resultOf progress ⌝ }
+// What a scan answers, having come to that in so many trials.
+fn result_of(progress: Progress, trials: u64) -> ScanResult
+    ensures { λ r. ⌜ r ≡ resultOf progress trials ⌝ }
 {
     let stats = progress.stats;
     ScanResult {
         stats: stats,
         changes: progress.changes,
+        trials: trials,
     }
 }
 
-// A toggle scan: a toggle attempted at each cell, in raster order.
+// A toggle scan: a toggle attempted at each unlocked cell, in raster order, each of them a trial.
 pub fn toggle_scan(
     measures: Measures,
     psf: &[u8],
@@ -129,7 +131,7 @@ pub fn toggle_scan(
     }
     let c = entered.c;
     let progress = toggle_all(measures, psf, gray, &c, dots, table, stats);
-    Scanned::Done(result_of(progress))
+    Scanned::Done(result_of(progress, unlocked(gray)))
 }
 
 // A swap scan: at each cell, in raster order, the partners within reach, farthest first, up to the first that lowers
@@ -150,8 +152,8 @@ pub fn swap_scan(
         return Scanned::Refused(entered.number);
     }
     let c = entered.c;
-    let progress = swap_all(measures, psf, gray, &c, dots, table, stats);
-    Scanned::Done(result_of(progress))
+    let done = swap_counted(true, measures, psf, gray, &c, dots, table, stats);
+    Scanned::Done(result_of(done.progress, done.trials))
 }
 
 // A settling: toggle scans until one accepts nothing, then one swap scan; if that accepted something, again from the

@@ -1,3 +1,4 @@
 -- Laws that the proofs of this crate share.
 pub mod Partner
 pub mod Clear
+pub mod Spans

@@ -1,17 +1,19 @@
 // A swap scan of a judged plate whose kernel is c. A trial is decided by the table in a few operations; locked cells, and
-// cells where no partner can lower the squared error, are passed over.
+// cells where no partner can lower the squared error, are passed over. Its trials are counted where that is asked for.
 ghost use mathlib.Core.Bool.{true};
 ghost use mathlib.Core.Path.{_≡_};
 ghost use Prim.Native.Nat.{ℕ, _+_, _^_, _≤_, _<_};
 ghost use lib.ListN.{length, getD};
-ghost use Rattle.model.specs.Error.{targetFor};
+ghost use Rattle.model.specs.Basic.{pick};
+ghost use Rattle.model.specs.Error.{targetFor, cells};
 ghost use Rattle.model.specs.Reference.{reference};
-ghost use Rattle.model.specs.Scan.{swaps, sweep};
+ghost use Rattle.model.specs.Scan.{swaps, sweep, trialsTo};
 ghost use Rattle.invariants.specs.Partners.{offsetOf, rowOf, columnOf, worthAt, HoldsOffsets, HoldsWorths};
-ghost use Rattle.invariants.specs.Plate.{Judged, Ready, OnPlate, cellOf, Leaves};
-ghost use Rattle.invariants.specs.Trials.{visit, performed, swapsAfter, lowersAt, Failed};
+ghost use Rattle.invariants.specs.Plate.{Judged, Ready, OnPlate, OnWay, cellOf, Leaves};
+ghost use Rattle.invariants.specs.Trials.{visit, performed, swapsAfter, lowersAt, Failed, Quiet, Takes};
 ghost use Rattle.search_prune.specs.Grid.{GridFits};
 use model::Cell;
+use model::Counted;
 use model::Measures;
 use model::Progress;
 use model::Stats;
@@ -27,6 +29,7 @@ use search_prune::may_lower;
 use search_runs::locked_run;
 use search_runs::run_length;
 use search_runs::swaps_clear;
+use search_tally::tally;
 use search_toggles::run_end;
 use search_trial::advance;
 use search_trial::swap;
@@ -159,9 +162,23 @@ fn swap_cell(
     advance(progress, answer)
 }
 
-// A swap scan with the offsets within reach and what they are worth: at each cell the partners in order, up to the
-// first that lowers the squared error. Cells where none can are found by a quick test and passed over.
-fn swap_by(
+// Where a scan stands: at a cell, and up to where a run of cells was tested.
+struct Stand {
+    at: Cell,
+    tested: usize,
+}
+
+// What a scan finds from there on: the first cell that takes a partner, the place of the partner's offset, and up to where
+// a run of cells was tested. Where no cell takes one, it is the first below the plate.
+struct Taker {
+    at: Cell,
+    found: usize,
+    tested: usize,
+}
+
+// The first cell from there on that takes a partner: at each cell the partners are tried in order, up to the first that
+// lowers the squared error. Cells where none can are found by a quick test and passed over.
+fn next_taker(
     measures: Measures,
     psf: &[u8],
     gray: &[u8],
@@ -169,23 +186,20 @@ fn swap_by(
     codes: &[u8],
     worths: &[i32],
     grid: &[i32],
-    dots: &mut [u8],
-    table: &mut [i32],
-    stats: Stats,
-) -> Progress
-    requires { ⌜ Ready measures (now psf) (now gray) (now c) (now dots) (now table) stats ⌝ }
+    dots: &[u8],
+    table: &[i32],
+    from: Stand,
+) -> Taker
+    requires { ⌜ Judged measures (now psf) (now gray) (now c) (now dots) (now table) × OnWay measures (from .at) ⌝ }
     requires { ⌜ HoldsOffsets (measures .reach) (now codes) × HoldsWorths (measures .radius) (now c) (now codes) (now worths)
         × GridFits (measures .radius) (now c) (measures .reach) (now grid) ⌝ }
-    ensures { λ r. ⌜ (let t = targetFor measures (now (psf .entry)) (now (gray .entry)) in
-        Leaves t (performed t (sweep t (swaps t (measures .reach)) (reference (now (dots .entry)) stats)))
-        r (now (dots .exit)) (now (table .exit))) ⌝ }
+    ensures { λ r. ⌜ OnWay measures (r .at) × Quiet (targetFor measures (now (psf .entry)) (now (gray .entry)))
+        (measures .reach) (now (dots .entry)) (cellOf (measures .width) (from .at)) (cellOf (measures .width) (r .at)) ⌝ }
+    ensures { λ r. ⌜ (r .at .row < measures .height → Takes (targetFor measures (now (psf .entry)) (now (gray .entry)))
+        (measures .reach) (now (dots .entry)) (cellOf (measures .width) (r .at)) (r .found)) ⌝ }
 {
-    let mut progress = Progress {
-        stats: stats,
-        changes: 0,
-    };
-    let mut at = Cell { row: 0, col: 0 };
-    let mut tested: usize = 0;
+    let mut at = from.at;
+    let mut tested = from.tested;
     while at.row < measures.height {
         let n = clear_swaps(
             measures,
@@ -214,27 +228,115 @@ fn swap_by(
                 k += 1;
             };
             if found < codes.len() {
-                progress = swap_cell(
-                    measures,
-                    psf,
-                    gray,
-                    c,
-                    codes,
-                    dots,
-                    table,
-                    progress,
-                    at,
-                    found,
-                );
+                return Taker {
+                    at: at,
+                    found: found,
+                    tested: tested,
+                };
             }
             at = next(measures.width, at);
         }
     }
-    progress
+    Taker {
+        at: at,
+        found: 0,
+        tested: tested,
+    }
 }
 
-// A swap scan: what it has come to at its end.
-pub fn swap_all(
+// What a scan begins with: its ledger, and whether its trials are counted.
+struct Task {
+    stats: Stats,
+    counted: bool,
+}
+
+// A swap scan with the offsets within reach and what they are worth: from cell to cell that takes a partner. Its trials are
+// counted where that is asked for, and else 0.
+fn swap_by(
+    measures: Measures,
+    psf: &[u8],
+    gray: &[u8],
+    c: &[i32],
+    codes: &[u8],
+    worths: &[i32],
+    grid: &[i32],
+    dots: &mut [u8],
+    table: &mut [i32],
+    task: Task,
+) -> Counted
+    requires { ⌜ Ready measures (now psf) (now gray) (now c) (now dots) (now table) (task .stats) ⌝ }
+    requires { ⌜ HoldsOffsets (measures .reach) (now codes) × HoldsWorths (measures .radius) (now c) (now codes) (now worths)
+        × GridFits (measures .radius) (now c) (measures .reach) (now grid) ⌝ }
+    ensures { λ r. ⌜ (let t = targetFor measures (now (psf .entry)) (now (gray .entry)) in
+        Leaves t (performed t (sweep t (swaps t (measures .reach)) (reference (now (dots .entry)) (task .stats))))
+        (r .progress) (now (dots .exit)) (now (table .exit))) ⌝ }
+    ensures { λ r. ⌜ (let t = targetFor measures (now (psf .entry)) (now (gray .entry)) in
+        r .trials ≡ pick (task .counted) (trialsTo t (swaps t (measures .reach))
+        (reference (now (dots .entry)) (task .stats)) (cells t)) 0) ⌝ }
+{
+    let stats = task.stats;
+    let mut progress = Progress {
+        stats: stats,
+        changes: 0,
+    };
+    let mut trials: u64 = 0;
+    let mut from = Stand {
+        at: Cell { row: 0, col: 0 },
+        tested: 0,
+    };
+    loop {
+        let taker = next_taker(
+            measures,
+            psf,
+            gray,
+            c,
+            codes,
+            worths,
+            grid,
+            dots,
+            table,
+            from,
+        );
+        trials = tally(
+            task.counted,
+            measures,
+            psf,
+            gray,
+            codes,
+            dots,
+            trials,
+            from.at,
+            taker.at,
+            taker.found,
+        );
+        if measures.height <= taker.at.row {
+            return Counted {
+                progress: progress,
+                trials: trials,
+            };
+        }
+        progress = swap_cell(
+            measures,
+            psf,
+            gray,
+            c,
+            codes,
+            dots,
+            table,
+            progress,
+            taker.at,
+            taker.found,
+        );
+        from = Stand {
+            at: next(measures.width, taker.at),
+            tested: taker.tested,
+        };
+    }
+}
+
+// A swap scan: what it has come to at its end, and its trials where they are counted, else 0.
+pub fn swap_counted(
+    counted: bool,
     measures: Measures,
     psf: &[u8],
     gray: &[u8],
@@ -242,11 +344,14 @@ pub fn swap_all(
     dots: &mut [u8],
     table: &mut [i32],
     stats: Stats,
-) -> Progress
+) -> Counted
     requires { ⌜ Ready measures (now psf) (now gray) (now c) (now dots) (now table) stats ⌝ }
     ensures { λ r. ⌜ (let t = targetFor measures (now (psf .entry)) (now (gray .entry)) in
         Leaves t (performed t (sweep t (swaps t (measures .reach)) (reference (now (dots .entry)) stats)))
-        r (now (dots .exit)) (now (table .exit))) ⌝ }
+        (r .progress) (now (dots .exit)) (now (table .exit))) ⌝ }
+    ensures { λ r. ⌜ (let t = targetFor measures (now (psf .entry)) (now (gray .entry)) in
+        r .trials ≡ pick counted (trialsTo t (swaps t (measures .reach)) (reference (now (dots .entry)) stats) (cells t))
+        0) ⌝ }
 {
     let mut codes = [0u8; 168];
     let mut worths = [0i32; 168];
@@ -265,6 +370,27 @@ pub fn swap_all(
         &grid[..n],
         dots,
         table,
-        stats,
+        Task {
+            stats: stats,
+            counted: counted,
+        },
     )
+}
+
+// A swap scan: what it has come to at its end.
+pub fn swap_all(
+    measures: Measures,
+    psf: &[u8],
+    gray: &[u8],
+    c: &[i32],
+    dots: &mut [u8],
+    table: &mut [i32],
+    stats: Stats,
+) -> Progress
+    requires { ⌜ Ready measures (now psf) (now gray) (now c) (now dots) (now table) stats ⌝ }
+    ensures { λ r. ⌜ (let t = targetFor measures (now (psf .entry)) (now (gray .entry)) in
+        Leaves t (performed t (sweep t (swaps t (measures .reach)) (reference (now (dots .entry)) stats)))
+        r (now (dots .exit)) (now (table .exit))) ⌝ }
+{
+    swap_counted(false, measures, psf, gray, c, dots, table, stats).progress
 }

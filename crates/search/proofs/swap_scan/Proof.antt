@@ -23,11 +23,11 @@ unfolding swapScanCall laterCall
 returns c =
     let entered : tie.After-enter = search in ends-refused _ _ _ (entered .enter .ensures .0) (c .if1 .taken)
 
-slice-aggregate-swap-all : tie.Need-slice-aggregate-swap-all
-slice-aggregate-swap-all c = search needs
+slice-aggregate-swap-counted : tie.Need-slice-aggregate-swap-counted
+slice-aggregate-swap-counted c = search needs
 
-swap-all-requires : tie.Need-swap-all-requires
-swap-all-requires c κs =
+swap-counted-requires : tie.Need-swap-counted-requires
+swap-counted-requires c κs =
     let entered : tie.After-enter = search in
     let e : tie.Else1 = search in
     entered .enter .ensures .1 (e .if1 .left)
@@ -47,9 +47,11 @@ returns-2 c =
     let entered : tie.After-enter = search in
     let e : tie.Else1 = search in
     let s : tie.Start = search in
-    let done : tie.After-swap-all = search in
+    let done : tie.After-swap-counted = search in
+    let last : tie.After-result-of = search in
     leaves-ends (s .args .dots .now) (s .args .table .now) (sym (entered .enter .ensures .0) ∙ e .if1 .left)
-    (as-reply (scan-leaves (swaps _ _) _ (c .result-of .ensures) (done .swap-all .ensures)))
+    (as-reply (scan-leaves (swaps _ _) _ (last .result-of .ensures) (done .swap-counted .ensures .1)
+    (done .swap-counted .ensures .0)))
 
 pub swap-scan-spec : {M : Type 1} → statement M
 swap-scan-spec =
@@ -59,8 +61,8 @@ swap-scan-spec =
     same-length
     same-length-2
     returns
-    slice-aggregate-swap-all
-    swap-all-requires
+    slice-aggregate-swap-counted
+    swap-counted-requires
     result-of-requires
     same-length-3
     same-length-4

@@ -6,6 +6,7 @@ use Rattle.model.specs.Calls.{laterCall, toggleScanCall}
 use Rattle.model.proofs.Calls.{ends-refused}
 use Rattle.invariants.proofs.Plate.{as-reply, leaves-ends}
 use Rattle.invariants.proofs.Scanning.{scan-leaves}
+use Rattle.search.proofs.Unlocked.{gray-few, unlocked-trials}
 use Rattle.search.proofs.toggle_scan.Statement.{statement}
 use Rattle.search.proofs.toggle_scan.Tie as tie
 
@@ -32,6 +33,12 @@ toggle-all-requires c κs =
     let e : tie.Else1 = search in
     entered .enter .ensures .1 (e .if1 .left)
 
+unlocked-requires : tie.Need-unlocked-requires
+unlocked-requires c κs =
+    let entered : tie.After-enter = search in
+    let e : tie.Else1 = search in
+    gray-few (entered .enter .ensures .1 (e .if1 .left) .later)
+
 result-of-requires : tie.Need-result-of-requires
 result-of-requires c κs = search needs
 
@@ -48,8 +55,12 @@ returns-2 c =
     let e : tie.Else1 = search in
     let s : tie.Start = search in
     let done : tie.After-toggle-all = search in
+    let counted : tie.After-unlocked = search in
+    let last : tie.After-result-of = search in
     leaves-ends (s .args .dots .now) (s .args .table .now) (sym (entered .enter .ensures .0) ∙ e .if1 .left)
-    (as-reply (scan-leaves (toggles _) _ (c .result-of .ensures) (done .toggle-all .ensures)))
+    (as-reply (scan-leaves (toggles _) _ (last .result-of .ensures)
+    (unlocked-trials (entered .enter .ensures .1 (e .if1 .left) .later) _ (counted .unlocked .ensures))
+    (done .toggle-all .ensures)))
 
 pub toggle-scan-spec : {M : Type 1} → statement M
 toggle-scan-spec =
@@ -61,6 +72,7 @@ toggle-scan-spec =
     returns
     slice-aggregate-toggle-all
     toggle-all-requires
+    unlocked-requires
     result-of-requires
     same-length-3
     same-length-4
