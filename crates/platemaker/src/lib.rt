@@ -181,11 +181,12 @@ pub extern "C" fn pm_toggle_scan(
     table: &mut [i32],
     stats: &mut [i64],
     changes: &mut u64,
+    trials: &mut u64,
 ) -> u32
     ensures { λ r. ⌜ Makes (toggleScanOver (now (measures .entry)) (now (psf .entry)) (now (gray .entry))
-        (now (dots .entry)) (now (table .entry)) (now (stats .entry)))
-        scanBehind (now (stats .entry), now (changes .entry)) r
-        (buffers (now (dots .exit)) (now (table .exit))) (now (stats .exit), now (changes .exit)) ⌝ }
+        (now (dots .entry)) (now (table .entry)) (now (stats .entry))) scanBehind
+        (now (stats .entry), now (changes .entry), now (trials .entry)) r (buffers (now (dots .exit))
+        (now (table .exit))) (now (stats .exit), now (changes .exit), now (trials .exit)) ⌝ }
 {
     let number = judge_numbers(measures, stats);
     if number != 0 {
@@ -194,7 +195,7 @@ pub extern "C" fn pm_toggle_scan(
     let sizes = measures_of(measures);
     let ledger = stats_of(stats);
     let answer = search::toggle_scan(sizes, psf, gray, dots, table, ledger);
-    lay_scan(answer, stats, changes)
+    lay_scan(answer, stats, changes, trials)
 }
 
 // A swap scan.
@@ -207,11 +208,12 @@ pub extern "C" fn pm_swap_scan(
     table: &mut [i32],
     stats: &mut [i64],
     changes: &mut u64,
+    trials: &mut u64,
 ) -> u32
     ensures { λ r. ⌜ Makes (swapScanOver (now (measures .entry)) (now (psf .entry)) (now (gray .entry))
-        (now (dots .entry)) (now (table .entry)) (now (stats .entry)))
-        scanBehind (now (stats .entry), now (changes .entry)) r
-        (buffers (now (dots .exit)) (now (table .exit))) (now (stats .exit), now (changes .exit)) ⌝ }
+        (now (dots .entry)) (now (table .entry)) (now (stats .entry))) scanBehind
+        (now (stats .entry), now (changes .entry), now (trials .entry)) r (buffers (now (dots .exit))
+        (now (table .exit))) (now (stats .exit), now (changes .exit), now (trials .exit)) ⌝ }
 {
     let number = judge_numbers(measures, stats);
     if number != 0 {
@@ -220,7 +222,7 @@ pub extern "C" fn pm_swap_scan(
     let sizes = measures_of(measures);
     let ledger = stats_of(stats);
     let answer = search::swap_scan(sizes, psf, gray, dots, table, ledger);
-    lay_scan(answer, stats, changes)
+    lay_scan(answer, stats, changes, trials)
 }
 
 // A settling.

@@ -45,16 +45,18 @@ pub fn lay_attempt(answer: Attempt, stats: &mut [i64], change: &mut i64) -> u32
     }
 }
 
-// the same of a scan, with its accepted changes
-pub fn lay_scan(answer: Scanned, stats: &mut [i64], changes: &mut u64) -> u32
+// the same of a scan, with its accepted changes and its trials
+pub fn lay_scan(answer: Scanned, stats: &mut [i64], changes: &mut u64, trials: &mut u64) -> u32
     requires { ⌜ (length (now stats) ≡ statsSize) × Holds (λ done. Storable (done .stats)) (scanned answer) ⌝ }
-    ensures { λ r. ⌜ Lays (scanned answer) scanBehind (now (stats .entry), now (changes .entry)) r
-        (now (stats .exit), now (changes .exit)) ⌝ }
+    ensures { λ r. ⌜ Lays (scanned answer) scanBehind
+        (now (stats .entry), now (changes .entry), now (trials .entry)) r
+        (now (stats .exit), now (changes .exit), now (trials .exit)) ⌝ }
 {
     match answer {
         Scanned::Done(done) => {
             store_stats(stats, done.stats);
             *changes = done.changes;
+            *trials = done.trials;
             0
         }
         Scanned::Refused(number) => number,

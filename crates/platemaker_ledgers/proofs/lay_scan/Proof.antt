@@ -1,7 +1,7 @@
 -- `platemaker_ledgers::lay_scan` meets its contract, case by case of the answer.
 use mathlib.Core.Path.{refl}
 use borrow.Author.Needs.{needs}
-use Rattle.model.proofs.Interface.{two-behind}
+use Rattle.model.proofs.Interface.{three-behind}
 use Rattle.platemaker_ledgers.proofs.lay_scan.Statement.{statement}
 use Rattle.platemaker_ledgers.proofs.lay_scan.Tie as tie
 
@@ -25,7 +25,7 @@ returns c =
     let stored : tie.After-store-stats = search in
     let read : tie.After-answer = search in
     rw (read .answer .given .1)
-    (record { status-is = refl; behind-is = two-behind (stored .store-stats .ensures) refl })
+    (record { status-is = refl; behind-is = three-behind (stored .store-stats .ensures) refl refl })
 
 returns-2 : tie.Need-returns-2
 returns-2 c =
