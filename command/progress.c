@@ -12,10 +12,11 @@ static double seconds(void) {
 /* what pm_plate_settle does; a line is due after half a second, and then every tenth. *shown is its length */
 static uint32_t settle_by_scans(uint64_t *scans, int *shown) {
     double due = seconds() + 0.5;
-    uint64_t changes = 1;
+    uint64_t changes = 1, trials = 0;
     for (int swaps = 0; !swaps || changes > 0;) {
         swaps = changes == 0;
-        uint32_t number = swaps ? pm_plate_swap_scan(&plate, &changes) : pm_plate_toggle_scan(&plate, &changes);
+        uint32_t number = swaps ? pm_plate_swap_scan(&plate, &changes, &trials)
+                                : pm_plate_toggle_scan(&plate, &changes, &trials);
         if (number != 0) return number;
         ++*scans;
         if (seconds() < due) continue;

@@ -38,8 +38,8 @@ extern "C" {
 #endif
 
 /* The version of this header, as text and as a number: 1,000,000 * major + 1,000 * minor + patch. */
-#define PM_VERSION_TEXT "2.0.0"
-#define PM_VERSION 2000000
+#define PM_VERSION_TEXT "3.0.0"
+#define PM_VERSION 3000000
 
 /* The version of the library that is linked: PM_VERSION where header and library belong together. */
 uint32_t pm_version(void);
@@ -184,21 +184,23 @@ uint32_t pm_try_swap(const size_t *measures, size_t measures_len, const uint8_t 
                      size_t col2, int64_t *change);
 
 /*
- * A toggle scan: a toggle is attempted at every cell that is not locked, row by row; *changes were accepted.
- * Draws 1 to 7, 16, 20, 21.
+ * A toggle scan: a toggle is attempted at every cell that is not locked, row by row. *changes is how many were
+ * accepted, *trials how many were attempted: one for each of these cells, so at most width * height. Draws 1 to 7, 16,
+ * 20, 21.
  */
 uint32_t pm_toggle_scan(const size_t *measures, size_t measures_len, const uint8_t *psf, size_t psf_len,
                         const uint8_t *gray, size_t gray_len, uint8_t *dots, size_t dots_len, int32_t *table,
-                        size_t table_len, int64_t *stats, size_t stats_len, uint64_t *changes);
+                        size_t table_len, int64_t *stats, size_t stats_len, uint64_t *changes, uint64_t *trials);
 
 /*
  * A swap scan: at every cell, row by row, the swaps with the cells within reach are attempted, farthest first, up to
- * the first that is accepted. Locked cells are passed over, as cell and as partner. *changes is how many were accepted.
- * Draws 1 to 7, 16, 20, 21.
+ * the first that is accepted. Locked cells are passed over, as cell and as partner, and so are partners with the same
+ * dot. *changes is how many were accepted, *trials how many were attempted, those accepted among them, by this rule and
+ * not by what the library can spare itself: at most width * height * ((2 * reach + 1)^2 - 1). Draws 1 to 7, 16, 20, 21.
  */
 uint32_t pm_swap_scan(const size_t *measures, size_t measures_len, const uint8_t *psf, size_t psf_len,
                       const uint8_t *gray, size_t gray_len, uint8_t *dots, size_t dots_len, int32_t *table,
-                      size_t table_len, int64_t *stats, size_t stats_len, uint64_t *changes);
+                      size_t table_len, int64_t *stats, size_t stats_len, uint64_t *changes, uint64_t *trials);
 
 /*
  * A settling: toggle scans until one accepts nothing, then a swap scan; if that accepted something, again. No toggle
@@ -345,17 +347,17 @@ static inline uint32_t pm_plate_start(struct pm_plate *plate) {
 }
 
 /* pm_toggle_scan, of the plate. */
-static inline uint32_t pm_plate_toggle_scan(struct pm_plate *plate, uint64_t *changes) {
+static inline uint32_t pm_plate_toggle_scan(struct pm_plate *plate, uint64_t *changes, uint64_t *trials) {
     size_t cells = pm_plate_length(plate);
     return pm_toggle_scan(plate->measures, PM_MEASURES, plate->psf, pm_plate_entries(plate), plate->gray, cells,
-                          plate->dots, cells, plate->table, cells, plate->stats, PM_STATS, changes);
+                          plate->dots, cells, plate->table, cells, plate->stats, PM_STATS, changes, trials);
 }
 
 /* pm_swap_scan, of the plate. */
-static inline uint32_t pm_plate_swap_scan(struct pm_plate *plate, uint64_t *changes) {
+static inline uint32_t pm_plate_swap_scan(struct pm_plate *plate, uint64_t *changes, uint64_t *trials) {
     size_t cells = pm_plate_length(plate);
     return pm_swap_scan(plate->measures, PM_MEASURES, plate->psf, pm_plate_entries(plate), plate->gray, cells,
-                        plate->dots, cells, plate->table, cells, plate->stats, PM_STATS, changes);
+                        plate->dots, cells, plate->table, cells, plate->stats, PM_STATS, changes, trials);
 }
 
 /* pm_converge, of the plate. */

@@ -29,7 +29,7 @@ from operator import index
 from pathlib import Path
 from typing import Any, Iterable, NamedTuple, Optional, Union
 
-VERSION = "2.0.0"
+VERSION = "3.0.0"
 MAX_CELLS, MAX_PSF, MAX_SHEET, MAX_PBM = 65536, 49, 393472, 8203
 
 
@@ -111,6 +111,13 @@ class Figures(NamedTuple):
     on: int
     off: int
     swaps: int
+
+
+class Scan(NamedTuple):
+    """What a scan came to: how many changes it accepted, and how many it tried, the accepted ones among them."""
+
+    changes: int
+    trials: int
 
 
 class Verdict(NamedTuple):
@@ -338,13 +345,15 @@ class Plate:
         """
         return self._made("pm_try_swap", c_int64(), row, col, row2, col2)
 
-    def toggle_scan(self) -> int:
-        """Attempts a toggle at every cell that is not locked; answers how many were done."""
-        return self._made("pm_toggle_scan", c_uint64())
+    def toggle_scan(self) -> Scan:
+        """Attempts a toggle at every cell that is not locked; answers how many were done and how many attempted."""
+        return self._scanned("pm_toggle_scan")
 
-    def swap_scan(self) -> int:
-        """Attempts swaps at every cell that is not locked, up to the first that is done; answers how many were done."""
-        return self._made("pm_swap_scan", c_uint64())
+    def swap_scan(self) -> Scan:
+        """Attempts swaps at every cell that is not locked, up to the first that is done; answers how many were done and
+        how many attempted. Cells with the same dot, and locked ones, are no partners and count for nothing.
+        """
+        return self._scanned("pm_swap_scan")
 
     def squared_error(self) -> int:
         """The squared error, worked out afresh from the dots."""
@@ -375,6 +384,12 @@ class Plate:
         """A call that changes the plate, and its result."""
         _call(name, *self._all(self.measures, self._dots), *cells, result)
         return int(result.value)
+
+    def _scanned(self, name: str) -> Scan:
+        """A scan of the plate, and its results."""
+        changes, trials = c_uint64(), c_uint64()
+        _call(name, *self._all(self.measures, self._dots), changes, trials)
+        return Scan(changes.value, trials.value)
 
 
 def check(filed: Buffer) -> Verdict:

@@ -1,6 +1,7 @@
 /*
  * What include/platemaker.h says, tried on the library: versions, refusal texts, sizes that suffice, empty buffers at
- * NULL, measures of a wrong length, locked cells, what struct pm_plate hands on, and the stack of a thread with 1 MiB.
+ * NULL, measures of a wrong length, locked cells, the trials of scans, what struct pm_plate hands on, and the stack of
+ * a thread with 1 MiB.
  *
  *     header          all of it
  *     header --small  without the largest plates, for a slow machine such as valgrind's
@@ -39,11 +40,11 @@ static const size_t element[BUFFERS] = {sizeof(size_t), 1, 1, 1, sizeof(int32_t)
 /* the results of all calls that are no buffers */
 static struct results {
     int64_t change, error;
-    uint64_t changes;
+    uint64_t changes, trials;
     size_t offset, length, width, height;
 } results;
 
-static const struct results untouched = {BEFORE, BEFORE, BEFORE, BEFORE, BEFORE, BEFORE, BEFORE};
+static const struct results untouched = {BEFORE, BEFORE, BEFORE, BEFORE, BEFORE, BEFORE, BEFORE, BEFORE};
 
 static size_t width, height;
 static int passed, failed;
@@ -108,8 +109,8 @@ static uint32_t call(int which) {
     case START: return pm_start(LENT_LATER);
     case TRY_TOGGLE: return pm_try_toggle(LENT_LATER, height - 1, width - 1, &r->change);
     case TRY_SWAP: return pm_try_swap(LENT_LATER, 0, 0, 0, 1, &r->change);
-    case TOGGLE_SCAN: return pm_toggle_scan(LENT_LATER, &r->changes);
-    case SWAP_SCAN: return pm_swap_scan(LENT_LATER, &r->changes);
+    case TOGGLE_SCAN: return pm_toggle_scan(LENT_LATER, &r->changes, &r->trials);
+    case SWAP_SCAN: return pm_swap_scan(LENT_LATER, &r->changes, &r->trials);
     case CONVERGE: return pm_converge(LENT_LATER, &r->changes);
     case READ_SHEET: return pm_read_sheet(LENT(INPUT), LENT_TARGET, LENT(MEASURES), &r->offset);
     case WRITE_SHEET: return pm_write_sheet(LENT(MEASURES), LENT_TARGET, LENT(OUT), &r->length, &r->offset);
@@ -395,8 +396,8 @@ static struct pm_plate locked_plate(const uint8_t *dots, size_t start) {
 /* 16 straight after 7, so before 8 and 9; at a start with kind 2 only */
 static void check_locked_dots(void) {
     for (size_t i = 0; i < sizeof locks / sizeof locks[0]; i++) {
-        int64_t change = 0;
-        uint64_t changes = 0;
+        int64_t change = BEFORE;
+        uint64_t changes = BEFORE, trials = BEFORE;
         struct pm_plate plate = locked_plate(locks[i].dots, locks[i].start);
         check(pm_plate_start(&plate) == locks[i].at_start, "the start of locked cells %zu", i);
         check(memcmp(plate.dots, locks[i].left, 3) == 0, "the dots of locked cells %zu", i);
@@ -404,9 +405,10 @@ static void check_locked_dots(void) {
         if (locks[i].later == 0) continue;
         check(pm_try_toggle(OF_PLATE(plate), 1, 0, &change) == locks[i].later, "a toggle off the plate, %zu", i);
         check(pm_try_swap(OF_PLATE(plate), 0, 0, 0, 0, &change) == locks[i].later, "a swap with itself, %zu", i);
-        check(pm_plate_toggle_scan(&plate, &changes) == locks[i].later, "a toggle scan of locked cells %zu", i);
-        check(pm_plate_swap_scan(&plate, &changes) == locks[i].later, "a swap scan of locked cells %zu", i);
+        check(pm_plate_toggle_scan(&plate, &changes, &trials) == locks[i].later, "a toggle scan, locked cells %zu", i);
+        check(pm_plate_swap_scan(&plate, &changes, &trials) == locks[i].later, "a swap scan, locked cells %zu", i);
         check(pm_plate_settle(&plate, &changes) == locks[i].later, "a settling of locked cells %zu", i);
+        check(change == BEFORE && changes == BEFORE && trials == BEFORE, "the results of locked cells %zu", i);
     }
 }
 
@@ -486,8 +488,8 @@ static uint32_t call_plate(int which, struct pm_plate *plate, struct results *r,
     switch (which) {
     case SQUARED_ERROR: return pm_plate_measure(plate, &r->error);
     case START: return pm_plate_start(plate);
-    case TOGGLE_SCAN: return pm_plate_toggle_scan(plate, &r->changes);
-    case SWAP_SCAN: return pm_plate_swap_scan(plate, &r->changes);
+    case TOGGLE_SCAN: return pm_plate_toggle_scan(plate, &r->changes, &r->trials);
+    case SWAP_SCAN: return pm_plate_swap_scan(plate, &r->changes, &r->trials);
     case CONVERGE: return pm_plate_settle(plate, &r->changes);
     case READ_SHEET: return pm_plate_read(plate, LENT(INPUT), &r->offset);
     default: return pm_plate_write(plate, out, out_len, &r->length, &r->offset);
@@ -570,9 +572,9 @@ static void check_contents(void) {
     plate.stats[PM_STATS_ERROR]++;
     check(pm_plate_settle(&plate, &r.changes) == PM_REFUSED_STATS, "a plate with a wrong ledger");
     plate.table[62]++;
-    check(pm_plate_toggle_scan(&plate, &r.changes) == PM_REFUSED_TABLE, "a plate with a wrong table");
+    check(pm_plate_toggle_scan(&plate, &r.changes, &r.trials) == PM_REFUSED_TABLE, "a plate with a wrong table");
     plate.dots[62] = 2;
-    check(pm_plate_swap_scan(&plate, &r.changes) == PM_REFUSED_DOT, "a plate with a wrong dot");
+    check(pm_plate_swap_scan(&plate, &r.changes, &r.trials) == PM_REFUSED_DOT, "a plate with a wrong dot");
     check(pm_plate_measure(&plate, &r.error) == PM_REFUSED_DOT, "a wrong dot measured");
     memset(plate.psf, 255, sizeof plate.psf);
     check(pm_plate_start(&plate) == PM_REFUSED_PSF, "a plate with a wrong psf");
@@ -585,6 +587,55 @@ static void check_plates(void) {
         for (size_t m = 0; m < sizeof mistakes / sizeof mistakes[0]; m++) check_mistake(plate_calls[i], &mistakes[m]);
     }
     check_contents();
+}
+
+/* The trials of scans, on plates of at most four cells with a psf that spreads nothing. */
+
+static const struct {
+    const char *what;
+    size_t width, height, reach;
+    uint8_t gray[4], dots[4];
+    uint64_t toggles, toggle_trials, swaps, swap_trials;
+} trials[] = {
+    {"at rest, reach 1", 2, 2, 1, {128, 127, 127, 128}, {1, 0, 0, 1}, 0, 4, 0, 8},
+    {"at rest, reach 6", 2, 2, 6, {128, 127, 127, 128}, {1, 0, 0, 1}, 0, 4, 0, 8},
+    {"no reach", 2, 2, 0, {128, 127, 127, 128}, {1, 0, 0, 1}, 0, 4, 0, 0},
+    {"equal dots", 2, 2, 1, {1, 1, 1, 1}, {0, 0, 0, 0}, 0, 4, 0, 0},
+    {"the farthest partner is accepted", 3, 1, 2, {10, 10, 200}, {1, 0, 0}, 2, 3, 1, 4},
+    {"the nearer partner is accepted", 3, 1, 2, {20, 200, 10}, {1, 0, 0}, 2, 3, 1, 5},
+    {"none is accepted within reach", 3, 1, 1, {10, 10, 200}, {1, 0, 0}, 2, 3, 0, 2},
+    {"partners that are locked", 4, 1, 3, {100, 0, 255, 200}, {1, 0, 1, 0}, 2, 2, 1, 2},
+    {"all but one locked", 3, 1, 2, {0, 255, 130}, {0, 1, 0}, 1, 1, 0, 0},
+    {"all locked", 2, 1, 1, {0, 255}, {0, 1}, 0, 0, 0, 0},
+};
+
+/* starts the plate and scans it; on a refused scan both results stay */
+static void check_scan(size_t i, int which, uint64_t accepted, uint64_t tried) {
+    uint8_t gray[4], dots[4];
+    int32_t table[4];
+    struct results r = untouched;
+    struct pm_plate plate = {.measures = {trials[i].width, trials[i].height, 0, trials[i].reach, 2}, .psf = {1},
+                             .gray = gray, .dots = dots, .table = table, .room = 4};
+    const char *name = calls[which].name;
+    memcpy(gray, trials[i].gray, 4);
+    memcpy(dots, trials[i].dots, 4);
+    check(pm_plate_start(&plate) == 0, "a start for %s, %s", name, trials[i].what);
+    plate.stats[PM_STATS_ERROR]++;
+    check(call_plate(which, &plate, &r, NULL, 0) == PM_REFUSED_STATS && memcmp(&r, &untouched, sizeof r) == 0,
+          "%s refused, %s", name, trials[i].what);
+    plate.stats[PM_STATS_ERROR]--;
+    check(call_plate(which, &plate, &r, NULL, 0) == 0, "%s, %s", name, trials[i].what);
+    check(r.changes == accepted && r.trials == tried, "%" PRIu64 " changes and %" PRIu64 " trials by %s, %s",
+          r.changes, r.trials, name, trials[i].what);
+    r.changes = r.trials = BEFORE;
+    check(memcmp(&r, &untouched, sizeof r) == 0, "other results of %s, %s", name, trials[i].what);
+}
+
+static void check_trials(void) {
+    for (size_t i = 0; i < sizeof trials / sizeof trials[0]; i++) {
+        check_scan(i, TOGGLE_SCAN, trials[i].toggles, trials[i].toggle_trials);
+        check_scan(i, SWAP_SCAN, trials[i].swaps, trials[i].swap_trials);
+    }
 }
 
 /* The stack: every call on the largest plate, in a thread with 1 MiB above a page that cannot be touched. */
@@ -636,6 +687,7 @@ int main(int count, char **words) {
     check_stats();
     check_locks();
     check_plates();
+    check_trials();
     if (!small) {
         check_sizes();
         check_stack(stack);

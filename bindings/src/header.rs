@@ -28,11 +28,11 @@ extern "C" {
 
     pub fn pm_toggle_scan(measures: *const usize, measures_len: usize, psf: *const u8, psf_len: usize, gray: *const u8,
                           gray_len: usize, dots: *mut u8, dots_len: usize, table: *mut i32, table_len: usize,
-                          stats: *mut i64, stats_len: usize, changes: *mut u64) -> u32;
+                          stats: *mut i64, stats_len: usize, changes: *mut u64, trials: *mut u64) -> u32;
 
     pub fn pm_swap_scan(measures: *const usize, measures_len: usize, psf: *const u8, psf_len: usize, gray: *const u8,
                         gray_len: usize, dots: *mut u8, dots_len: usize, table: *mut i32, table_len: usize,
-                        stats: *mut i64, stats_len: usize, changes: *mut u64) -> u32;
+                        stats: *mut i64, stats_len: usize, changes: *mut u64, trials: *mut u64) -> u32;
 
     pub fn pm_converge(measures: *const usize, measures_len: usize, psf: *const u8, psf_len: usize, gray: *const u8,
                        gray_len: usize, dots: *mut u8, dots_len: usize, table: *mut i32, table_len: usize,

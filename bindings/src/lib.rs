@@ -32,8 +32,8 @@ pub use refusal::*;
 
 /// The version of the header that this crate follows, in words and as a number: 1,000,000 * major + 1,000 * minor +
 /// patch.
-pub const VERSION_TEXT: &str = "2.0.0";
-pub const VERSION: u32 = 2_000_000;
+pub const VERSION_TEXT: &str = "3.0.0";
+pub const VERSION: u32 = 3_000_000;
 
 /// Sizes that suffice for every plate: width, and height; cells; the entries of a psf; the bytes of a sheet and of a
 /// filed sheet; those of a PBM and of a PGM as they are written.
@@ -219,13 +219,16 @@ plate_calls! {
     try_swap, pm_try_swap(row: usize, col: usize, row2: usize, col2: usize, change: &mut i64);
 
     /// A toggle scan: a toggle is attempted at every cell that is not locked, row by row. changes is how many were
-    /// accepted. Draws 1 to 7, 16, 20, 21.
-    toggle_scan, pm_toggle_scan(changes: &mut u64);
+    /// accepted, trials how many were attempted: one for each of these cells, so at most width * height. Draws 1 to 7,
+    /// 16, 20, 21.
+    toggle_scan, pm_toggle_scan(changes: &mut u64, trials: &mut u64);
 
     /// A swap scan: at every cell, row by row, the swaps with the cells within reach are attempted, farthest first, up to
-    /// the first that is accepted. Locked cells are passed over, as cell and as partner. changes is how many were
-    /// accepted. Draws 1 to 7, 16, 20, 21.
-    swap_scan, pm_swap_scan(changes: &mut u64);
+    /// the first that is accepted. Locked cells are passed over, as cell and as partner, and so are partners with the
+    /// same dot. changes is how many were accepted, trials how many were attempted, those accepted among them, by this
+    /// rule and not by what the library can spare itself: at most width * height * ((2 * reach + 1)^2 - 1). Draws 1 to
+    /// 7, 16, 20, 21.
+    swap_scan, pm_swap_scan(changes: &mut u64, trials: &mut u64);
 
     /// A settling: toggle scans until one accepts nothing, then a swap scan; if that accepted something, again. scans is
     /// how many scans were made. Draws 1 to 7, 16, 20, 21.
