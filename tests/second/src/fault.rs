@@ -1,5 +1,6 @@
 //! Single mistakes that the second implementation can be given, to see that the comparison finds each of them.
 
+use crate::handed::Call;
 use crate::plain::ORDER;
 
 /// One mistake.
@@ -207,6 +208,30 @@ pub enum Fault {
     ContradictionRefused,
     /// a ledger that does not fit because of such dots
     ContradictionUnfits,
+    /// a locked cell counted as a trial of a toggle scan
+    LockedCellCounted,
+    /// trials of a swap scan counted also at a locked cell
+    SwapsOfLockedCounted,
+    /// a partner off the plate counted as a trial
+    OffPlateCounted,
+    /// a locked partner of an unlike dot counted as a trial
+    LockedPartnerCounted,
+    /// a partner of an equal dot counted as a trial
+    EqualDotCounted,
+    /// the accepted trials of a kind of scan not counted
+    AcceptedNotCounted(Call),
+    /// trials counted at a cell also past the accepted one
+    PastAcceptedCounted,
+    /// trials counted by the dots as they were when the scan began
+    FirstDotsCounted,
+    /// trials of a swap scan counted only at cells where one was accepted
+    AcceptedCellsCounted,
+    /// one trial counted for each cell of a swap scan that is not locked
+    CellsForTrials,
+    /// the accepted changes told for the trials of a kind of scan
+    ChangesForTrials(Call),
+    /// the trials set to 0 where a scan of a kind is refused
+    RefusedTrialsCleared(Call),
     /// two neighbours in the order of the refusals of plates exchanged, this one and the next
     Exchanged(usize),
 }
@@ -219,7 +244,7 @@ impl Fault {
     }
 }
 
-const SINGLE: [Fault; 107] = [
+const SINGLE: [Fault; 122] = [
     Fault::PsfTransposed,
     Fault::Folded,
     Fault::TiesAccepted,
@@ -327,4 +352,19 @@ const SINGLE: [Fault; 107] = [
     Fault::ContradictionNotTold,
     Fault::ContradictionRefused,
     Fault::ContradictionUnfits,
+    Fault::LockedCellCounted,
+    Fault::SwapsOfLockedCounted,
+    Fault::OffPlateCounted,
+    Fault::LockedPartnerCounted,
+    Fault::EqualDotCounted,
+    Fault::AcceptedNotCounted(Call::ToggleScan),
+    Fault::AcceptedNotCounted(Call::SwapScan),
+    Fault::PastAcceptedCounted,
+    Fault::FirstDotsCounted,
+    Fault::AcceptedCellsCounted,
+    Fault::CellsForTrials,
+    Fault::ChangesForTrials(Call::ToggleScan),
+    Fault::ChangesForTrials(Call::SwapScan),
+    Fault::RefusedTrialsCleared(Call::ToggleScan),
+    Fault::RefusedTrialsCleared(Call::SwapScan),
 ];

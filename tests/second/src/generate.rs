@@ -196,7 +196,7 @@ pub fn handed(random: &mut Random, (width, height): (usize, usize)) -> Handed {
     state(random, &mut handed);
     handed.autocorrelation = (0..(4 * radius + 1).pow(2)).map(|_| random.any() as i32).collect();
     (handed.error, handed.change) = (random.any() as i64, random.any() as i64);
-    (handed.changes, handed.scans) = (random.any(), random.any());
+    (handed.changes, handed.trials, handed.scans) = (random.any(), random.any(), random.any());
     (handed.length, handed.offset) = (random.any() as usize, random.any() as usize);
     handed
 }

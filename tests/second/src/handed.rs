@@ -55,6 +55,10 @@ impl Call {
         matches!(self, TryToggle | TrySwap | ToggleScan | SwapScan | Converge)
     }
 
+    pub fn is_scan(self) -> bool {
+        matches!(self, Call::ToggleScan | Call::SwapScan)
+    }
+
     /// Whether the call is handed the measures as a slice. The others take some of them, each by itself, or none.
     pub fn takes_measures(self) -> bool {
         self.is_later() || matches!(self, Call::Start | Call::WriteSheet)
@@ -120,6 +124,7 @@ pub struct Handed {
     pub error: i64,
     pub change: i64,
     pub changes: u64,
+    pub trials: u64,
     pub scans: u64,
     /// the sheet, the filed sheet or the file that is read
     pub bytes: Vec<u8>,

@@ -77,7 +77,7 @@ macro_rules! lent {
 lent! {
     psf: u8, gray: u8, dots: u8, table: i32, stats: i64, autocorrelation: i32, bytes: u8, measures: usize, out: u8,
     packed: u8, counts: u32, verdict: i64;
-    error: i64, change: i64, changes: u64, scans: u64, length: usize, offset: usize,
+    error: i64, change: i64, changes: u64, trials: u64, scans: u64, length: usize, offset: usize,
     read_width: usize, read_height: usize
 }
 
@@ -96,6 +96,7 @@ fn make(call: Call, handed: &Handed, m: &[usize], lent: &mut Lent) -> u32 {
     let &Handed { width, height, radius, row, col, row2, col2, .. } = handed;
     let (psf, gray, dots) = (lent.psf.lend(), lent.gray.lend(), lent.dots.lend());
     let (table, stats, change) = (lent.table.lend(), lent.stats.lend(), lent.change.number());
+    let (changes, trials) = (lent.changes.number(), lent.trials.number());
     let (bytes, out, length, offset) = (lent.bytes.lend(), lent.out.lend(), lent.length.number(), lent.offset.number());
     let (read_width, read_height) = (lent.read_width.number(), lent.read_height.number());
     match call {
@@ -105,8 +106,8 @@ fn make(call: Call, handed: &Handed, m: &[usize], lent: &mut Lent) -> u32 {
         Call::Start => start(m, psf, gray, dots, table, stats),
         Call::TryToggle => try_toggle(m, psf, gray, dots, table, stats, row, col, change),
         Call::TrySwap => try_swap(m, psf, gray, dots, table, stats, row, col, row2, col2, change),
-        Call::ToggleScan => toggle_scan(m, psf, gray, dots, table, stats, lent.changes.number()),
-        Call::SwapScan => swap_scan(m, psf, gray, dots, table, stats, lent.changes.number()),
+        Call::ToggleScan => toggle_scan(m, psf, gray, dots, table, stats, changes, trials),
+        Call::SwapScan => swap_scan(m, psf, gray, dots, table, stats, changes, trials),
         Call::Converge => converge(m, psf, gray, dots, table, stats, lent.scans.number()),
         Call::ReadSheet => read_sheet(bytes, psf, gray, dots, lent.measures.lend(), offset),
         Call::WriteSheet => write_sheet(m, psf, gray, dots, out, length, offset),

@@ -1,6 +1,6 @@
-//! The calls of document 01 save those for sheets, from its plain sums, with the locked cells of request C-12, and the
-//! judging of what any call is handed. The plate here is document 01's plain plate: it has no table. Wherever a table or a
-//! squared error is wanted, the sum is taken over the dots.
+//! The calls of document 01 save those for sheets, from its plain sums, with the locked cells of request C-12 and the
+//! trials of request C-14, and the judging of what any call is handed. The plate here is document 01's plain plate: it
+//! has no table. Wherever a table or a squared error is wanted, the sum is taken over the dots.
 
 use crate::fault::Fault;
 use crate::handed::{
@@ -87,6 +87,58 @@ pub fn partners(reach: usize) -> Vec<(isize, isize)> {
     let mut offsets: Vec<_> = square(reach as isize).filter(|&d| d != (0, 0)).collect();
     offsets.sort_by_key(|&(down, right)| (Reverse(down * down + right * right), down, right));
     offsets
+}
+
+/// What a scan comes to: its accepted changes and its trials, which it answers, and what could be taken for trials.
+#[derive(Clone, Copy, Default)]
+pub struct Scan {
+    pub changes: u64,
+    pub trials: u64,
+    /// the locked cells that a toggle scan passed over
+    locked_cells: u64,
+    /// the swaps that locked cells could have been tried with
+    at_locked_cells: u64,
+    /// the partners passed over: off the plate, locked though of an unlike dot, of an equal dot
+    off_plate: u64,
+    pub locked_partners: u64,
+    equal_dots: u64,
+    /// the swaps that were left to try at cells, past the accepted one
+    pub left: u64,
+    /// the partners gone through, not locked, that had an unlike dot when the scan began
+    unlike_at_first: u64,
+    /// the trials at cells where one was accepted
+    at_accepted: u64,
+    /// the cells visited that are not locked
+    free_cells: u64,
+}
+
+impl Scan {
+    /// The trials that a call answers, right or with a mistake.
+    fn trials_told(&self, call: Call, fault: Option<Fault>) -> u64 {
+        match fault {
+            Some(Fault::LockedCellCounted) => self.trials + self.locked_cells,
+            Some(Fault::SwapsOfLockedCounted) => self.trials + self.at_locked_cells,
+            Some(Fault::OffPlateCounted) => self.trials + self.off_plate,
+            Some(Fault::LockedPartnerCounted) => self.trials + self.locked_partners,
+            Some(Fault::EqualDotCounted) => self.trials + self.equal_dots,
+            Some(Fault::AcceptedNotCounted(by)) if by == call => self.trials - self.changes,
+            Some(Fault::PastAcceptedCounted) => self.trials + self.left,
+            Some(Fault::FirstDotsCounted) => self.unlike_at_first,
+            Some(Fault::AcceptedCellsCounted) => self.at_accepted,
+            Some(Fault::CellsForTrials) => self.free_cells,
+            Some(Fault::ChangesForTrials(by)) if by == call => self.changes,
+            _ => self.trials,
+        }
+    }
+}
+
+/// What becomes of a partner at a cell of a swap scan: passed over, or a trial.
+enum Weighed {
+    OffPlate,
+    Locked,
+    EqualDot,
+    Declined,
+    Accepted,
 }
 
 /// The plain plate: measures, psf, gray and dots, and the three counts.
@@ -316,11 +368,18 @@ impl Plate {
         change
     }
 
-    /// A toggle attempt at every cell in raster order that is not locked. Answers the accepted changes.
-    fn toggle_scan(&mut self) -> u64 {
-        let cells = self.all_cells();
-        let accepted = |&cell: &Cell| !self.passes_over(cell, Fault::LockedToggled) && self.attempt(&[cell]) < 0;
-        cells.filter(accepted).count() as u64
+    /// A toggle attempt at every cell in raster order that is not locked. Each is one trial.
+    fn toggle_scan(&mut self) -> Scan {
+        let mut scan = Scan::default();
+        for cell in self.all_cells() {
+            if self.passes_over(cell, Fault::LockedToggled) {
+                scan.locked_cells += 1;
+                continue;
+            }
+            scan.trials += 1;
+            scan.changes += u64::from(self.attempt(&[cell]) < 0);
+        }
+        Scan { free_cells: scan.trials, unlike_at_first: scan.trials, at_accepted: scan.trials, ..scan }
     }
 
     /// The partners of this plate's reach.
@@ -334,34 +393,78 @@ impl Plate {
         offsets
     }
 
-    /// At every cell the first partner that lowers E, neither of them locked. Answers the accepted changes.
-    fn swap_scan(&mut self) -> u64 {
-        let partners = self.partners();
-        let mut changes = 0;
+    /// At every cell the first partner that lowers E, neither of them locked. Each swap that is weighed is one trial,
+    /// up to the accepted one and with it, by the dots as they are at that moment.
+    pub fn swap_scan(&mut self) -> Scan {
+        let (partners, first) = (self.partners(), self.clone());
+        let mut scan = Scan::default();
         for cell in self.all_cells() {
+            let (dot, before) = (self.dot(cell), scan);
             if self.passes_over(cell, Fault::LockedSwapped) {
+                scan.at_locked_cells += self.unlike(cell, dot, &partners, false);
                 continue;
             }
+            let mut gone = 0;
             for &offset in &partners {
-                let Some(partner) = self.moved(cell, offset) else {
-                    continue;
-                };
-                if self.passes_over(partner, Fault::LockedPartnerTaken) {
-                    if self.fault == Some(Fault::LockedPartnerEndsCell) {
-                        break;
+                gone += 1;
+                match self.weigh(cell, offset) {
+                    Weighed::OffPlate => scan.off_plate += 1,
+                    Weighed::Locked if self.fault == Some(Fault::LockedPartnerEndsCell) => break,
+                    Weighed::Locked => {}
+                    Weighed::EqualDot => scan.equal_dots += 1,
+                    Weighed::Declined => scan.trials += 1,
+                    Weighed::Accepted => {
+                        scan.trials += 1;
+                        scan.changes += 1;
+                        if self.fault != Some(Fault::CellNotLeft) {
+                            break;
+                        }
                     }
-                    continue;
-                }
-                if self.dot(partner) == self.dot(cell) || self.attempt(&[cell, partner]) >= 0 {
-                    continue;
-                }
-                changes += 1;
-                if self.fault != Some(Fault::CellNotLeft) {
-                    break;
                 }
             }
+            scan.free_cells += 1;
+            scan.locked_partners += self.unlike(cell, dot, &partners[..gone], true);
+            scan.left += self.unlike(cell, dot, &partners[gone..], false);
+            scan.unlike_at_first += first.unlike(cell, first.dot(cell), &partners[..gone], false);
+            if scan.changes > before.changes {
+                scan.at_accepted += scan.trials - before.trials;
+            }
         }
-        changes
+        scan
+    }
+
+    /// How many of these partners of a cell are on the plate and have another dot than this one, of those that are
+    /// locked or of those that are not.
+    fn unlike(&self, cell: Cell, dot: u8, partners: &[(isize, isize)], locked: bool) -> u64 {
+        let on_plate = partners.iter().filter_map(|&offset| self.moved(cell, offset));
+        on_plate.filter(|&partner| self.dot(partner) != dot && self.is_locked(partner) == locked).count() as u64
+    }
+
+    /// The attempt to swap a cell with the partner at an offset, unless that is passed over.
+    fn weigh(&mut self, cell: Cell, offset: (isize, isize)) -> Weighed {
+        let Some(partner) = self.moved(cell, offset) else {
+            return Weighed::OffPlate;
+        };
+        if self.passes_over(partner, Fault::LockedPartnerTaken) {
+            return Weighed::Locked;
+        }
+        if self.dot(partner) == self.dot(cell) {
+            return Weighed::EqualDot;
+        }
+        if self.attempt(&[cell, partner]) < 0 {
+            Weighed::Accepted
+        } else {
+            Weighed::Declined
+        }
+    }
+
+    /// The trials of a swap scan that accepts nothing: for each cell the cells within reach that have an unlike dot, of
+    /// those that are not locked.
+    pub fn unlike_within_reach(&self) -> u64 {
+        let free: Vec<Cell> = self.all_cells().filter(|&cell| !self.is_locked(cell)).collect();
+        let near = |a: Cell, b: Cell| a.0.abs_diff(b.0) <= self.reach && a.1.abs_diff(b.1) <= self.reach;
+        let partners = |&a: &Cell| free.iter().filter(|&&b| near(a, b) && self.dot(a) != self.dot(b)).count() as u64;
+        free.iter().map(partners).sum()
     }
 
     /// Toggle scans until one accepts nothing, then one swap scan; if that accepted something, again. Answers the scans.
@@ -369,11 +472,11 @@ impl Plate {
         let mut scans = 0;
         loop {
             scans += 1;
-            if self.toggle_scan() > 0 {
+            if self.toggle_scan().changes > 0 {
                 continue;
             }
             scans += 1;
-            if self.swap_scan() == 0 || self.fault == Some(Fault::StopsAfterSwaps) {
+            if self.swap_scan().changes == 0 || self.fault == Some(Fault::StopsAfterSwaps) {
                 return scans - u64::from(self.fault == Some(Fault::LastScanNotCounted));
             }
         }
@@ -470,6 +573,9 @@ impl Second {
             Call::CountRows => self.count_rows(handed),
             _ => self.judge(call, handed).map(|()| self.work(call, handed)),
         };
+        if done.is_err() && self.has(Fault::RefusedTrialsCleared(call)) {
+            handed.trials = 0;
+        }
         done.err().unwrap_or(0)
     }
 
@@ -658,14 +764,19 @@ impl Second {
             (handed.stats[STATS_ON], handed.stats[STATS_OFF], handed.stats[STATS_SWAPS]);
         match call {
             Call::TryToggle | Call::TrySwap => handed.change = self.attempt(&mut plate, &call.named(handed)),
-            Call::ToggleScan => handed.changes = plate.toggle_scan(),
-            Call::SwapScan => handed.changes = plate.swap_scan(),
+            Call::ToggleScan => self.tell(call, plate.toggle_scan(), handed),
+            Call::SwapScan => self.tell(call, plate.swap_scan(), handed),
             _ => handed.scans = plate.converge(),
         }
         handed.table = narrow(plate.filtered_error());
         let (error, dots) = (plate.squared_error(), handed.stats[STATS_START_DOTS]);
         handed.stats = vec![handed.stats[STATS_START_ERROR], error, dots, plate.on, plate.off, plate.swaps];
         handed.dots = plate.dots;
+    }
+
+    /// What a scan answers beside the ledger.
+    fn tell(&self, call: Call, scan: Scan, handed: &mut Handed) {
+        (handed.changes, handed.trials) = (scan.changes, scan.trials_told(call, self.fault));
     }
 
     fn attempt(&self, plate: &mut Plate, cells: &[Cell]) -> i64 {

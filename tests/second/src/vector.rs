@@ -16,8 +16,8 @@ pub fn hand(left: &str, handed: &mut Handed) -> Result<Call, String> {
     let mut fields = left.split(" | ");
     let call = name(fields.next().unwrap_or_default(), handed)?;
     fields.try_for_each(|field| set(field, handed))?;
-    *handed = Handed { error: 7, change: 7, changes: 7, scans: 7, length: 7, offset: 7, ..take(handed) };
-    (handed.read_width, handed.read_height) = (7, 7);
+    *handed = Handed { error: 7, change: 7, changes: 7, trials: 7, scans: 7, ..take(handed) };
+    (handed.length, handed.offset, handed.read_width, handed.read_height) = (7, 7, 7, 7);
     Ok(call)
 }
 
@@ -107,7 +107,7 @@ fn written(call: Call) -> &'static [&'static str] {
         Call::SquaredError => &["error"],
         Call::Start => &["dots", "table", "stats"],
         Call::TryToggle | Call::TrySwap => &["change", "dots", "table", "stats"],
-        Call::ToggleScan | Call::SwapScan => &["changes", "dots", "table", "stats"],
+        Call::ToggleScan | Call::SwapScan => &["changes", "trials", "dots", "table", "stats"],
         Call::Converge => &["scans", "dots", "table", "stats"],
         Call::ReadSheet => &["offset", "psf", "gray", "dots", "measures"],
         Call::WriteSheet => &["length", "offset", "out"],
@@ -125,6 +125,7 @@ fn shown(field: &str, handed: &Handed) -> String {
         "error" => list(field, &[handed.error]),
         "change" => list(field, &[handed.change]),
         "changes" => list(field, &[handed.changes]),
+        "trials" => list(field, &[handed.trials]),
         "scans" => list(field, &[handed.scans]),
         "length" => list(field, &[handed.length]),
         "offset" => list(field, &[handed.offset]),

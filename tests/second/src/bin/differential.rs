@@ -16,7 +16,7 @@ use second::handed::{
 };
 use second::library;
 use second::picture::{self, row_bytes};
-use second::plain::{self, Plate, Second};
+use second::plain::{self, Plate, Scan, Second};
 use second::sheet;
 use std::collections::BTreeMap;
 use std::process::ExitCode;
@@ -66,8 +66,8 @@ impl Run {
         let number = self.second.call(call, &mut wanted);
         let (answer, guards) = library::call(call, handed);
         *self.answers.entry((call as usize, answer)).or_default() += 1;
-        if let Some(outcome) = outcome(call, answer, &before, handed) {
-            *self.outcomes.entry((call as usize, outcome)).or_default() += 1;
+        for way in outcome(call, answer, &before, handed).into_iter().chain(tried(call, answer, &before, handed)) {
+            *self.outcomes.entry((call as usize, way)).or_default() += 1;
         }
         if answer == number && *handed == wanted && guards {
             self.passed += 1;
@@ -131,6 +131,9 @@ impl Run {
             let before = handed.clone();
             let answer = self.compare(call, &mut handed);
             self.demand(call, answer, &first, &before, &handed);
+            if answer == 0 && call.is_scan() && handed.trials > 0 {
+                *self.outcomes.entry((call as usize, LISTED)).or_default() += 1;
+            }
             settled = call == Converge;
         }
         self.dots_of_rows(&handed);
@@ -180,10 +183,26 @@ impl Run {
             ),
             ("the fall is at least 255 for each accepted change", fall >= 255 * after.accepted()),
             ("the answer is that of its accepted changes, and a settling rests within few scans", answered),
+            ("the trials fit the plate", answer > 0 || trials_fit(call, before, after)),
         ];
         for (claim, _) in claims.iter().filter(|(_, holds)| !holds) {
             let what = format!("{call:?} answers {answer}, but it does not hold that {claim}");
             self.fail(&format!("{what}\nhanded {before:?}\nleft {after:?}"));
+        }
+    }
+
+    /// Scans of small plates made again by single attempts of the library: those of the scan's rule, in its order, at a
+    /// cell of a swap scan up to the accepted one. The attempts that are not refused are the scan's trials.
+    fn scans_by_attempts(&mut self) {
+        for call in [Call::ToggleScan, Call::SwapScan].repeat(60) {
+            let size = (self.random.within(1, 5), self.random.within(1, 5));
+            let mut handed = generate::handed(&mut self.random, size);
+            handed.reach = handed.reach.min(3);
+            let attempts = attempts(call, &handed);
+            self.compare(call, &mut handed);
+            let left = |by: &Handed| (by.dots.clone(), by.table.clone(), by.stats.clone(), by.changes, by.trials);
+            let what = format!("{call:?} by attempts leaves {attempts:?}\nand by itself {handed:?}");
+            self.expect(&what, left(&attempts) == left(&handed));
         }
     }
 
@@ -384,6 +403,7 @@ impl Run {
             }
         }
         self.extreme();
+        self.most_trials();
         self.large_sheets();
         self.large_filed();
         self.large_files();
@@ -410,6 +430,20 @@ impl Run {
             for call in [Call::Start, Call::ToggleScan] {
                 self.compare(call, &mut handed);
             }
+        }
+    }
+
+    /// Scans of the largest plate that accept nothing, every other column of it dots and none of its cells locked. With
+    /// reach 6 there are 2 * (255 + 253 + 251) pairs of unlike columns, and 256 + 2 * (255 + ... + 250) of rows.
+    fn most_trials(&mut self) {
+        let mut handed = generate::handed(&mut self.random, (256, 256));
+        (handed.radius, handed.psf, handed.reach, handed.start) = (0, vec![1], 6, 2);
+        handed.dots = (0..handed.cells()).map(|at| (at % 2) as u8).collect();
+        handed.gray = handed.dots.iter().map(|&dot| 127 + dot).collect();
+        self.compare(Call::Start, &mut handed);
+        for (call, trials) in [(Call::SwapScan, 1518 * 3286), (Call::ToggleScan, 65_536)] {
+            self.compare(call, &mut handed);
+            self.expect("the trials of the largest plate", (handed.changes, handed.trials) == (0, trials));
         }
     }
 
@@ -506,10 +540,29 @@ fn outcomes_of(call: Call) -> &'static [&'static str] {
     match call {
         Call::TryToggle | Call::TrySwap => &["accepted", "declined", "tied"],
         Call::CheckFiled => &CHECKED,
-        _ if call.is_later() => &["changed", "changed beside locks", "unchanged"],
+        Call::Converge => &SCANNED[..3],
+        Call::ToggleScan => &SCANNED[..8],
+        Call::SwapScan => &SCANNED,
         _ => &[],
     }
 }
+
+/// A scan of a list, with trials.
+const LISTED: &str = "with trials in a list";
+
+/// The ways in which a settling comes out, then those of scans, then those of swap scans alone.
+const SCANNED: [&str; 10] = [
+    "changed",
+    "changed beside locks",
+    "unchanged",
+    LISTED,
+    "with trials",
+    "without a trial",
+    "with trials beside locks",
+    "of several changes",
+    "ahead of partners left at a cell",
+    "past a locked partner",
+];
 
 /// The ways in which a check comes out: three for each number in the place of rest. Where the figure differs the ledger
 /// does not fit.
@@ -546,6 +599,58 @@ fn outcome(call: Call, answer: u32, before: &Handed, after: &Handed) -> Option<&
     }
 }
 
+/// The ways in which the trials of a scan come out that is not refused.
+fn tried(call: Call, answer: u32, before: &Handed, after: &Handed) -> Vec<&'static str> {
+    if answer > 0 || !call.is_scan() {
+        return Vec::new();
+    }
+    let scan = if call == Call::SwapScan { Plate::new(before, None).swap_scan() } else { Scan::default() };
+    let trials = after.trials > 0;
+    let locks = generate::has_locks(before);
+    let ways = [trials, !trials, trials && locks, after.changes > 1, scan.left > 0, scan.locked_partners > 0];
+    SCANNED[4..].iter().zip(ways).filter(|&(_, came)| came).map(|(&way, _)| way).collect()
+}
+
+/// What holds of the trials of a scan by the plate alone: those of a toggle scan are its cells that are not locked,
+/// those of a swap scan that accepted nothing its unlike pairs; any other has at least as many as it accepted, and at
+/// most the partners of all cells. Other calls have none.
+fn trials_fit(call: Call, before: &Handed, after: &Handed) -> bool {
+    let most = before.cells() * ((2 * before.reach + 1).pow(2) - 1);
+    let free = before.gray.iter().filter(|&&gray| plain::lock(gray, None).is_none()).count();
+    match call {
+        Call::ToggleScan => after.trials == free as u64,
+        Call::SwapScan if after.changes == 0 => after.trials == Plate::new(before, None).unlike_within_reach(),
+        Call::SwapScan => (after.changes..=most as u64).contains(&after.trials),
+        _ => after.trials == before.trials,
+    }
+}
+
+/// What a scan comes to by single attempts of the library.
+fn attempts(call: Call, handed: &Handed) -> Handed {
+    let (attempt, offsets) = match call {
+        Call::ToggleScan => (Call::TryToggle, vec![(0, 0)]),
+        _ => (Call::TrySwap, plain::partners(handed.reach)),
+    };
+    let mut plate = Handed { changes: 0, trials: 0, ..handed.clone() };
+    for at in 0..handed.cells() {
+        (plate.row, plate.col) = (at / handed.width, at % handed.width);
+        for &(down, right) in &offsets {
+            plate.row2 = plate.row.wrapping_add_signed(down);
+            plate.col2 = plate.col.wrapping_add_signed(right);
+            let (answer, _) = library::call(attempt, &mut plate);
+            if [8, 22, 23].contains(&answer) {
+                continue;
+            }
+            plate.trials += 1;
+            if plate.change < 0 {
+                plate.changes += 1;
+                break;
+            }
+        }
+    }
+    plate
+}
+
 /// The sheet of document 01, and what the program prints for it.
 const SHEET: &[u8] = include_bytes!("../../../../crates/settle/stdin");
 const PRINTED: &[u8] = include_bytes!("../../../../crates/settle/stdout");
@@ -555,6 +660,7 @@ fn differential(seed: u64, rounds: u64) -> (u64, u64) {
     let mut run = Run::new(seed, None);
     run.examples();
     run.sums();
+    run.scans_by_attempts();
     (0..rounds).for_each(|_| run.round());
     run.sweep();
     run.sweep_filed();
@@ -575,7 +681,7 @@ fn faults(seed: u64, rounds: u64) -> (u64, u64) {
             run.failed > 0
         });
         println!(
-            "{:<24} {} after {} calls",
+            "{:<32} {} after {} calls",
             format!("{fault:?}"),
             if caught { "found" } else { "NOT FOUND" },
             run.passed + run.failed
