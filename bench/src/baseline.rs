@@ -1,15 +1,18 @@
-//! The baseline: document 01's rules and the locked cells of request C-12, table-driven, in plain Rust. Its calls judge
-//! nothing that they are handed; `judge` works out afresh what document 01 demands that a later call compares with.
+//! The baseline: document 01's rules, the locked cells of request C-12 and the trials of C-14, table-driven, in plain
+//! Rust. Its calls judge nothing that they are handed; `judge` works out afresh what document 01 demands that a later
+//! call compares with.
 
 mod search;
 mod sums;
 
-use crate::plate::{is_locked, Job, Plate, Side, STATS_ERROR, STATS_OFF, STATS_ON, STATS_START_DOTS};
+use crate::plate::{is_locked, Job, Plate, Scan, Side, STATS_ERROR, STATS_OFF, STATS_ON, STATS_START_DOTS};
 
 /// With `any_first`, a swap scan goes through the partners of a cell only where a quick pass says that one will do.
 pub struct Baseline {
     pub any_first: bool,
 }
+
+pub const BASELINE: Baseline = Baseline { any_first: false };
 
 /// Whether the dots fit the locks, and the table and the stats are those of the dots.
 pub fn judge(job: &Job, plate: &Plate) -> bool {
@@ -76,6 +79,14 @@ impl Side for Baseline {
         } else {
             search::settle::<false>(job, plate)
         }
+    }
+
+    fn toggle_scan(&self, job: &Job, plate: &mut Plate) -> Scan {
+        search::toggle_scan(job, plate)
+    }
+
+    fn swap_scan(&self, job: &Job, plate: &mut Plate) -> Scan {
+        search::swap_scan(job, plate)
     }
 
     fn try_toggle(&self, job: &Job, plate: &mut Plate, row: usize, col: usize) -> i64 {

@@ -1,7 +1,7 @@
 //! The library's side: its functions (bindings/) behind the calls that are measured. Nothing that is measured may be
 //! refused.
 
-use crate::plate::{Job, Plate, Side};
+use crate::plate::{Job, Plate, Scan, Side};
 use platemaker::{Measures, MEASURES};
 
 pub struct Library;
@@ -27,6 +27,24 @@ impl Side for Library {
         let status = platemaker::converge(&measures(job), &job.psf, &job.gray, dots, table, stats, &mut scans);
         expect_done("converge", status);
         scans
+    }
+
+    fn toggle_scan(&self, job: &Job, plate: &mut Plate) -> Scan {
+        let Plate { dots, table, stats } = plate;
+        let (m, mut scan) = (measures(job), Scan::default());
+        let Scan { changes, trials } = &mut scan;
+        let status = platemaker::toggle_scan(&m, &job.psf, &job.gray, dots, table, stats, changes, trials);
+        expect_done("toggle_scan", status);
+        scan
+    }
+
+    fn swap_scan(&self, job: &Job, plate: &mut Plate) -> Scan {
+        let Plate { dots, table, stats } = plate;
+        let (m, mut scan) = (measures(job), Scan::default());
+        let Scan { changes, trials } = &mut scan;
+        let status = platemaker::swap_scan(&m, &job.psf, &job.gray, dots, table, stats, changes, trials);
+        expect_done("swap_scan", status);
+        scan
     }
 
     fn try_toggle(&self, job: &Job, plate: &mut Plate, row: usize, col: usize) -> i64 {

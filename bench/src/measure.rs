@@ -1,13 +1,12 @@
-//! The measurements: settlings and single calls by each side in turn, medians of their times, and whether the sides agree.
+//! The measurements: settlings, scans and single calls by each side in turn, medians of their times, and whether the
+//! sides agree.
 
-use crate::baseline::{self, Baseline};
+use crate::baseline::{self, Baseline, BASELINE};
 use crate::input;
 use crate::library::Library;
-use crate::plate::{Job, Plate, Side};
+use crate::plate::{Job, Plate, Scan, Side};
 use crate::report::Table;
 use std::time::{Duration, Instant};
-
-const BASELINE: Baseline = Baseline { any_first: false };
 
 /// How large and how often.
 pub struct Scale {
@@ -131,17 +130,17 @@ pub fn job(side: usize, radius: usize, reach: usize, kind: usize, gray: Vec<u8>)
     Job { width: side, height: side, radius, reach, kind, psf: input::psf(radius), gray }
 }
 
-/// A way to make the k-th of the calls that are timed together. It answers a figure to compare.
-type Call<'a> = &'a dyn Fn(&mut Plate, usize) -> i64;
+/// A way to make the k-th of the calls that are timed together. It answers what is to be compared.
+type Call<'a, T> = &'a dyn Fn(&mut Plate, usize) -> T;
 
 /// Calls timed together: the time of one, and how they ended.
-struct Called {
+struct Called<T> {
     time: Duration,
     plate: Plate,
-    answers: Vec<i64>,
+    answers: Vec<T>,
 }
 
-fn call_often(call: Call, mut plate: Plate, calls: usize) -> Called {
+fn call_often<T>(call: Call<T>, mut plate: Plate, calls: usize) -> Called<T> {
     let begun = Instant::now();
     let answers = (0..calls).map(|k| call(&mut plate, k)).collect();
     Called { time: begun.elapsed() / calls as u32, plate, answers }
@@ -162,16 +161,50 @@ pub fn single_calls(scale: &Scale) -> Outcome {
         };
         let a = |plate: &mut Plate, k| toggle(&Library, &job, plate, k);
         let b = |plate: &mut Plate, k| toggle(&BASELINE, &job, plate, k);
-        add_calls(&mut outcome, name, scale, plate, &[&a, &b, &judging]);
+        add_calls(&mut outcome, &[name], scale, plate, &[&a, &b, &judging]);
     }
     settled.table.fill(0);
     let a = |plate: &mut Plate, _| fill_table(&Library, &job, plate);
     let b = |plate: &mut Plate, _| fill_table(&BASELINE, &job, plate);
-    add_calls(&mut outcome, "table", scale, &settled, &[&a, &b]);
+    add_calls(&mut outcome, &["table"], scale, &settled, &[&a, &b]);
     let a = |plate: &mut Plate, _| Library.squared_error(&job, plate);
     let b = |plate: &mut Plate, _| BASELINE.squared_error(&job, plate);
-    add_calls(&mut outcome, "squared error", scale, &settled, &[&a, &b]);
+    add_calls(&mut outcome, &["squared error"], scale, &settled, &[&a, &b]);
     outcome
+}
+
+/// One scan of a settled plate of radius 3, which it leaves as it is, by the sides of `single_calls`; no more than four
+/// are timed together. Without `with_trials` the trials are not compared: a library before 3.0.0 answers none.
+pub fn scans(scale: &Scale, with_trials: bool) -> Outcome {
+    let mut outcome = Outcome::new(&["scan", "trials", "a", "b", "a/b", "bj", "a/bj", "alike"]);
+    let scale = &Scale { calls: scale.calls.min(4), ..*scale };
+    let side = scale.side;
+    for (relief, gray) in [("ramp", input::noisy_ramp(side, side)), ("lettered", input::lettered(side, side))] {
+        for (kind, swaps, reach) in [("toggles", false, 6), ("swaps, reach 1", true, 1), ("swaps, reach 6", true, 6)] {
+            let job = job(side, 3, reach, 0, gray.clone());
+            let mut settled = settle_once(&BASELINE, &job).plate;
+            let trials = scan(&BASELINE, &job, &mut settled, swaps).trials.to_string();
+            let compared = |scan: Scan| Scan { trials: if with_trials { scan.trials } else { 0 }, ..scan };
+            let judging = |plate: &mut Plate, _| {
+                assert!(baseline::judge(&job, plate), "a plate that was left right");
+                compared(scan(&BASELINE, &job, plate, swaps))
+            };
+            let a = |plate: &mut Plate, _| compared(scan(&Library, &job, plate, swaps));
+            let b = |plate: &mut Plate, _| compared(scan(&BASELINE, &job, plate, swaps));
+            let name = format!("{kind}, {relief}");
+            add_calls(&mut outcome, &[&name, &trials], scale, &settled, &[&a, &b, &judging]);
+        }
+    }
+    outcome
+}
+
+/// A scan of either kind.
+pub fn scan(side: &dyn Side, job: &Job, plate: &mut Plate, swaps: bool) -> Scan {
+    if swaps {
+        side.swap_scan(job, plate)
+    } else {
+        side.toggle_scan(job, plate)
+    }
 }
 
 /// An attempt at the k-th of cells that stand too far apart for one to bear on another.
@@ -186,19 +219,20 @@ fn fill_table(side: &dyn Side, job: &Job, plate: &mut Plate) -> i64 {
     0
 }
 
-/// A row for one call made in each of these ways, the library's first.
-fn add_calls(outcome: &mut Outcome, name: &str, scale: &Scale, plate: &Plate, ways: &[Call]) {
-    let mut runs: Vec<Vec<Called>> = ways.iter().map(|_| Vec::new()).collect();
+/// A row for one call made in each of these ways, the library's first; its first cells are given.
+fn add_calls<T: PartialEq>(outcome: &mut Outcome, cells: &[&str], scale: &Scale, plate: &Plate, ways: &[Call<T>]) {
+    let mut runs: Vec<Vec<Called<T>>> = ways.iter().map(|_| Vec::new()).collect();
     for _ in 0..scale.repetitions {
         ways.iter().zip(&mut runs).for_each(|(call, runs)| runs.push(call_often(call, plate.clone(), scale.calls)));
     }
     let one = &runs[0][0];
     let alike = runs.iter().flatten().all(|run| run.plate == one.plate && run.answers == one.answers);
     let times: Vec<f64> = runs.iter().map(|runs| 1000.0 * median(runs, |run| run.time)).collect();
-    let mut row = vec![name.to_string(), format!("{:.1}", times[0])];
+    let mut row: Vec<String> = cells.iter().map(|text| text.to_string()).collect();
+    row.push(format!("{:.1}", times[0]));
     for time in &times[1..] {
         row.extend([format!("{time:.1}"), format!("{:.2}", times[0] / time)]);
     }
-    row.resize(6, "-".to_string());
+    row.resize(cells.len() + 5, "-".to_string());
     outcome.add(row, alike);
 }

@@ -40,12 +40,21 @@ impl Plate {
     }
 }
 
+/// What a scan answers: the changes that it accepted, and how many it tried (request C-14).
+#[derive(Clone, Copy, Default, PartialEq)]
+pub struct Scan {
+    pub changes: u64,
+    pub trials: u64,
+}
+
 /// The calls that are measured, as one side makes them.
 pub trait Side {
     /// Fills dots (with kind 2 they are read), table and stats.
     fn start(&self, job: &Job, plate: &mut Plate);
     /// Answers the number of scans.
     fn settle(&self, job: &Job, plate: &mut Plate) -> u64;
+    fn toggle_scan(&self, job: &Job, plate: &mut Plate) -> Scan;
+    fn swap_scan(&self, job: &Job, plate: &mut Plate) -> Scan;
     /// Answers what the toggle adds to the squared error; below 0 it was made.
     fn try_toggle(&self, job: &Job, plate: &mut Plate, row: usize, col: usize) -> i64;
     /// Works the table out afresh, into the plate.

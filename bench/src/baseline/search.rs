@@ -4,7 +4,7 @@
 //! the other dot and lowers E; and none is enough for the toggle of a locked cell.
 
 use super::sums::autocorrelation;
-use crate::plate::{is_locked, Job, Plate, Stats, STATS_ERROR, STATS_OFF, STATS_ON, STATS_SWAPS};
+use crate::plate::{is_locked, Job, Plate, Scan, Stats, STATS_ERROR, STATS_OFF, STATS_ON, STATS_SWAPS};
 
 /// What is added to T: at a dot, and at a locked cell and in the margin. Keys of the latter are from `LIMIT` to `END`.
 const DOT: i32 = 1 << 30;
@@ -31,7 +31,8 @@ struct Partner {
 }
 
 /// A plate being searched. A row of a window has 4r+1 numbers and 3 zeros, `LANES` together. With `ANY_FIRST`, a pass
-/// without branches asks at each cell whether any partner lowers E, before they are gone through in order.
+/// without branches asks at each cell whether any partner lowers E, before they are gone through in order. A scan that
+/// `COUNTS` its trials goes through them in any case.
 struct Search<const LANES: usize, const ANY_FIRST: bool> {
     width: usize,
     height: usize,
@@ -49,23 +50,44 @@ struct Search<const LANES: usize, const ANY_FIRST: bool> {
     stats: Stats,
 }
 
-/// Settles a plate and answers the number of scans. Never inlined: its instructions are counted by its name.
+/// Searches a plate by a method of `Search`, whatever its radius.
+macro_rules! searched {
+    ($job:ident, $plate:ident, $any_first:tt, $method:expr) => {
+        match $job.radius {
+            0 => Search::<4, $any_first>::searched($job, $plate, $method),
+            1 => Search::<8, $any_first>::searched($job, $plate, $method),
+            2 => Search::<12, $any_first>::searched($job, $plate, $method),
+            _ => Search::<16, $any_first>::searched($job, $plate, $method),
+        }
+    };
+}
+
+/// Settles a plate and answers the number of scans. Never inlined, like the next two: the instructions of each are
+/// counted by its name.
 #[inline(never)]
 pub fn settle<const ANY_FIRST: bool>(job: &Job, plate: &mut Plate) -> u64 {
-    match job.radius {
-        0 => Search::<4, ANY_FIRST>::settle(job, plate),
-        1 => Search::<8, ANY_FIRST>::settle(job, plate),
-        2 => Search::<12, ANY_FIRST>::settle(job, plate),
-        _ => Search::<16, ANY_FIRST>::settle(job, plate),
-    }
+    searched!(job, plate, ANY_FIRST, Search::run)
+}
+
+/// One toggle scan, with its trials.
+#[inline(never)]
+pub fn toggle_scan(job: &Job, plate: &mut Plate) -> Scan {
+    searched!(job, plate, false, Search::toggle_scan::<true>)
+}
+
+/// One swap scan, with its trials.
+#[inline(never)]
+pub fn swap_scan(job: &Job, plate: &mut Plate) -> Scan {
+    searched!(job, plate, false, Search::swap_scan::<true>)
 }
 
 impl<const LANES: usize, const ANY_FIRST: bool> Search<LANES, ANY_FIRST> {
-    fn settle(job: &Job, plate: &mut Plate) -> u64 {
+    /// Loads the plate, searches it and stores what is left.
+    fn searched<T>(job: &Job, plate: &mut Plate, by: impl FnOnce(&mut Self) -> T) -> T {
         let mut search = Self::load(job, plate);
-        let scans = search.run();
+        let answer = by(&mut search);
         search.store(plate);
-        scans
+        answer
     }
 
     fn load(job: &Job, plate: &Plate) -> Self {
@@ -124,64 +146,70 @@ impl<const LANES: usize, const ANY_FIRST: bool> Search<LANES, ANY_FIRST> {
         let mut scans = 0;
         loop {
             scans += 1;
-            if self.toggle_scan() == 0 {
+            if self.toggle_scan::<false>().changes == 0 {
                 scans += 1;
-                if self.swap_scan() == 0 {
+                if self.swap_scan::<false>().changes == 0 {
                     return scans;
                 }
             }
         }
     }
 
-    fn toggle_scan(&mut self) -> usize {
+    /// The trials are the cells that are not locked.
+    fn toggle_scan<const COUNTS: bool>(&mut self) -> Scan {
         let half = 255 * self.peak / 2;
-        let mut changes = 0;
+        let mut scan = Scan::default();
         for row in 0..self.height {
             let start = self.row_start(row);
             for m in start..start + self.width {
                 let key = self.keys[m];
+                if COUNTS {
+                    scan.trials += u64::from(!(LIMIT..=END).contains(&key));
+                }
                 if key < -half || key > DOT + half {
                     self.toggle(m, key);
-                    changes += 1;
+                    scan.changes += 1;
                 }
             }
         }
-        changes
+        scan
     }
 
-    fn swap_scan(&mut self) -> usize {
-        let mut changes = 0;
+    fn swap_scan<const COUNTS: bool>(&mut self) -> Scan {
+        let mut scan = Scan::default();
         for row in 0..self.height {
             let start = self.row_start(row);
             for m in start..start + self.width {
-                if let Some(partner) = self.first_partner(m) {
+                let (found, trials) = self.first_partner::<COUNTS>(m);
+                scan.trials += trials;
+                if let Some(partner) = found {
                     self.swap(m, partner);
-                    changes += 1;
+                    scan.changes += 1;
                 }
             }
         }
-        changes
+        scan
     }
 
-    /// The first partner of m that lowers the squared error.
-    fn first_partner(&self, m: usize) -> Option<Partner> {
+    /// The first partner of m that lowers the squared error, and the trials up to it where these are counted.
+    fn first_partner<const COUNTS: bool>(&self, m: usize) -> (Option<Partner>, u64) {
         let key = self.keys[m];
         let near: &[i32; NEAR] = self.keys[m - self.reach_back..][..NEAR].try_into().expect("that many");
         let key_of = |p: &Partner| near[p.at as usize % NEAR];
         if key > END {
             let limit = key - DOT;
-            if ANY_FIRST && !self.any(near, |key, worth| key < limit - worth) {
-                return None;
+            if ANY_FIRST && !COUNTS && !self.any(near, |key, worth| key < limit - worth) {
+                return (None, 0);
             }
-            first(&self.partners, |p| key_of(p) < limit - p.worth)
+            first::<COUNTS>(&self.partners, |p| key_of(p) < LIMIT, |p| key_of(p) < limit - p.worth)
         } else if key > LIMIT {
-            None
+            (None, 0)
         } else {
             let limit = key + DOT;
-            if ANY_FIRST && !self.any(near, |key, worth| key > limit + worth) {
-                return None;
+            if ANY_FIRST && !COUNTS && !self.any(near, |key, worth| key > limit + worth) {
+                return (None, 0);
             }
-            first(&self.partners, |p| key_of(p) > limit + p.worth)
+            first::<COUNTS>(&self.partners, |p| key_of(p) > END, |p| key_of(p) > limit + p.worth)
         }
     }
 
@@ -231,15 +259,27 @@ fn is_dot(key: i32) -> bool {
     key > EDGE
 }
 
-/// The first partner that lowers the squared error. At any reach the number of partners is a multiple of 8.
-fn first(partners: &[Partner], lowers: impl Fn(&Partner) -> bool) -> Option<Partner> {
+/// The first partner that lowers the squared error, and, with `COUNTS`, how many are unlike up to and with it, or in
+/// all where none lowers it. At any reach the number of partners is a multiple of 8.
+fn first<const COUNTS: bool>(
+    partners: &[Partner],
+    unlike: impl Fn(&Partner) -> bool,
+    lowers: impl Fn(&Partner) -> bool,
+) -> (Option<Partner>, u64) {
+    let mut trials = 0;
+    let mut tried = |p: &Partner| {
+        if COUNTS {
+            trials += u64::from(unlike(p));
+        }
+        lowers(p)
+    };
     for eight in partners.chunks_exact(8) {
         let eight: &[Partner; 8] = eight.try_into().expect("a chunk of 8");
-        if let Some(partner) = eight.iter().find(|p| lowers(p)) {
-            return Some(*partner);
+        if let Some(partner) = eight.iter().find(|p| tried(p)) {
+            return (Some(*partner), trials);
         }
     }
-    None
+    (None, trials)
 }
 
 /// The rows of `factor` × c, each filled up with zeros.
