@@ -1,4 +1,5 @@
--- A scan at one cell, and the trials of a swap scan there: which partner is taken, and that none of the first is.
+-- A scan at one cell, and the trials of a swap scan there: which partner is taken, and that none of the first is; the
+-- cells of which none takes a partner, and how many trials are made from one that takes one to the next.
 use mathlib.Core.Bool.{Bool, true, false, _&&_, not}
 use mathlib.Core.List.{List}
 use mathlib.Core.Path.{_≡_}

@@ -1,5 +1,5 @@
--- The partners of a cell in a swap scan: the offsets within reach in document 01's order, farthest first, and the cells
--- where they land.
+-- The partners of a cell in a swap scan: the offsets within reach in document 01's order, farthest first, the cells
+-- where they land, and which cells are within reach of one another.
 use mathlib.Core.Bool.{Bool, _&&_}
 use mathlib.Core.List.{List, [], _∷_, _++_, List·Memᴰ as In}
 use mathlib.Core.Path.{_≡_}
