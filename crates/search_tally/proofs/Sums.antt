@@ -38,17 +38,17 @@ module _ (t : Target) (reach : ℕ) (near : reach ≤ 6) where
 
 -- ---- what is told of the trials of a span
 module _ (t : Target) (reach : ℕ) (dots : List ℕ) (counted : Bool) (trials first last found : ℕ) where
-  abbrev Told : ℕ → Type 0
-  Told n = n ≡ pick counted (tallied t reach dots trials first last found) trials
+  abbrev IsTally : ℕ → Type 0
+  IsTally n = n ≡ pick counted (tallied t reach dots trials first last found) trials
 
   -- they are not counted
-  pub told-none : counted ≡ false → Told trials
+  pub told-none : counted ≡ false → IsTally trials
   told-none e = ap (λ b. pick b (tallied t reach dots trials first last found) trials) (sym e)
 
   module _ (e : counted ≡ true) (span : ℕ)
       (spans : span + allTrials t reach dots first ≡ allTrials t reach dots last) where
     sums : (b : Bool) (n : ℕ) → ltb last (cells t) ≡ b
-        → n ≡ trials + span + pick b (length (swapsBy t (take found (offsets reach)) dots last) + 1) 0 → Told n
+        → n ≡ trials + span + pick b (length (swapsBy t (take found (offsets reach)) dots last) + 1) 0 → IsTally n
     sums b n c is =
         let less : span ≡ allTrials t reach dots last - allTrials t reach dots first = omega (arith, spans) in
         is
@@ -56,10 +56,10 @@ module _ (t : Target) (reach : ℕ) (dots : List ℕ) (counted : Bool) (trials f
         ∙ ap (λ b. pick b (tallied t reach dots trials first last found) trials) (sym e)
 
     -- past the last cell
-    pub told-end : cells t ≤ last → Told (trials + span)
+    pub told-end : cells t ≤ last → IsTally (trials + span)
     told-end past = sums false (trials + span) (le-ltb last (cells t) past) (omega arith)
 
     -- at a cell, with those up to and with the one that is taken
     pub told-there : last < cells t → {some : ℕ} → some ≡ length (swapsBy t (take found (offsets reach)) dots last)
-        → Told (trials + span + some + 1)
+        → IsTally (trials + span + some + 1)
     told-there on {some} e = sums true (trials + span + some + 1) (lt-ltb last (cells t) on) (omega (arith, e))

@@ -1,5 +1,5 @@
 -- The swaps that a cell has with the partners at the first offsets.
---   Told                                           the cells that the code is told
+--   ToldCells                                           the cells that the code is told
 --   suits-off, suits-locked, suits-locked-there,   by these a partner does not suit,
 --   suits-alike, suits-all                         and it does
 --   weighed-next, weighed-few                      one offset more; at most as many as the offsets
@@ -23,11 +23,11 @@ use Rattle.invariants.specs.Partners.{HoldsOffsets, offsetOf, itself}
 
 -- ---- one partner
 -- i is the cell m, and n is what the code is told of its partner: the cell, or the number of cells
-pub record Told (t : Target) (m : ℕ) (o : Offset) (i n : ℕ) : Type 0 where
+pub record ToldCells (t : Target) (m : ℕ) (o : Offset) (i n : ℕ) : Type 0 where
   pub here : i ≡ m
   pub there : n ≡ pick (lands (t .width) (t .height) m o) (partner (t .width) m o) (t .height * t .width)
 
-module _ {t : Target} {m : ℕ} {o : Offset} {i n : ℕ} (told : Told t m o i n) (dots : List ℕ) where
+module _ {t : Target} {m : ℕ} {o : Offset} {i n : ℕ} (told : ToldCells t m o i n) (dots : List ℕ) where
   abbrev at : ℕ
   at = partner (t .width) m o
 

@@ -11,7 +11,7 @@ use Rattle.model.specs.Lock.{locked}
 use Rattle.model.specs.Refusal.{HalftoneFits}
 use Rattle.invariants.specs.Partners.{offsetOf}
 use Rattle.invariants.specs.Plate.{OnPlate, cellOf}
-use Rattle.search_tally.proofs.Weighing.{Told, suits-off, suits-locked, suits-locked-there}
+use Rattle.search_tally.proofs.Weighing.{ToldCells, suits-off, suits-locked, suits-locked-there}
 use Rattle.search_tally.proofs.Weighing.{suits-alike, suits-all}
 use Rattle.search_tally.proofs.suiting.Statement.{statement}
 use Rattle.search_tally.proofs.suiting.Tie as tie
@@ -49,7 +49,7 @@ module _ (a : tie.After-partner-cell) where
   abbrev place : tie.After-index
   place = search
 
-  told : Told (t start) (m start) (offsetOf (start .args .code)) (place .index .result) (a .partner-cell .result)
+  told : ToldCells (t start) (m start) (offsetOf (start .args .code)) (place .index .result) (a .partner-cell .result)
   told = record { here = place .index .ensures; there = a .partner-cell .ensures }
 
 returns : tie.Need-returns
