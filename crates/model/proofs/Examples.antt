@@ -1,6 +1,6 @@
 -- The starred examples of document 01 hold (`examples`), plates at rest break the half-peak bound on its other side
--- (`one-sided`), others break it and both tests of rest at a locked cell (`of-unlocked`), and scans make their trials
--- (`scan-examples`): each figure is computed from the sums.
+-- (`one-sided`), others break it and both tests of rest at a locked cell (`of-unlocked`), scans make their trials
+-- (`scan-examples`), and tone balances are what they are (`balance-examples`): each figure is computed from the sums.
 use mathlib.Core.Path.{refl}
 use native.Mathlib.Omega.{arith}
 use Rattle.algebra.specs.Sum.{sumTo, sumFrom}
@@ -23,7 +23,8 @@ use Rattle.model.specs.Sheet.{names, psfName, grayName, dotsName, sheetT
 use Rattle.model.specs.Format.{headFrom, body, fieldAt, headBy, bodyEnd, readSheet}
 use Rattle.model.specs.Program.{refusedText, figuresText, processedText, output}
 use Rattle.model.specs.Examples.{workedInput, workedOutput, Examples, dark, darkDots, light, lightDots, OneSided}
-use Rattle.model.specs.Examples.{ring, ringBlank, ringDot, OfUnlocked, ScanExamples}
+use Rattle.model.specs.Balance.{toneDifference, divided, balanceCall}
+use Rattle.model.specs.Examples.{ring, ringBlank, ringDot, OfUnlocked, ScanExamples, BalanceExamples}
 use Rattle.model.specs.Change.{made, toggle, swap, change, lookFrom}
 use Rattle.model.proofs.Refusal.{none-above}
 use Rattle.model.proofs.Rest.{rest-tested}
@@ -105,3 +106,8 @@ unfolding sumTo sumFrom tabulate gridAt squareAt psfAt autocorrelation kernel er
     laterCall toggleScanCall swapScanCall laterRefusal offsetsOf offsetsFrom offsets toggles swapsBy lookFrom tryEach
     progressOf sweepTo trialsAt scan
 scan-examples = record { pair-toggle-scan = refl; pair-swap-scan = refl; row-swap-scan = refl }
+
+pub balance-examples : BalanceExamples
+unfolding total above toneDifference divided balanceCall
+balance-examples =
+    record { one-below = refl; four-below = refl; five-below = refl; none-apart = refl; five-above = refl }

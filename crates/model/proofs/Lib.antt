@@ -72,6 +72,8 @@ pub mod FiledVerdicts
 pub mod FiledCheck
 pub mod FiledPrinted
 pub mod FiledExamples
+-- Tone balance
+pub mod Balance
 -- the C interface
 pub mod Interface
 -- Examples

@@ -22,6 +22,7 @@ use Rattle.model.proofs.PbmReading.{pbm-reading}
 use Rattle.model.proofs.PgmReading.{pgm-reading}
 use Rattle.model.proofs.PictureWriting.{pbm-written, pgm-written, counting}
 use Rattle.model.proofs.PictureExamples.{picture-examples}
+use Rattle.model.proofs.Balance.{balance-answers, balance-says}
 use Rattle.model.proofs.FiledText.{one-filing}
 use Rattle.model.proofs.FiledVerdicts.{verdicts-hold}
 use Rattle.model.proofs.FiledCheck.{checking, one-figure}
@@ -32,7 +33,7 @@ use Rattle.model.proofs.Longest.{sheet-most, writing-is-long, filed-mos
 use Rattle.model.proofs.Interface.{counted, not-counted, measures-draw, ledger-draws}
 use Rattle.model.proofs.Interface.{start-over, call-over, over-other-count, call-over-other-count}
 use Rattle.model.proofs.Interface.{toggle-is-told, swap-is-told, measures-read, stored-read, run-over}
-use Rattle.model.proofs.Examples.{examples, one-sided, of-unlocked, scan-examples}
+use Rattle.model.proofs.Examples.{examples, one-sided, of-unlocked, scan-examples, balance-examples}
 use Rattle.model.proofs.Screen.{ordered-locks}
 use Rattle.model.proofs.Lock.{lock-exactly, holds-blank, holds-solid}
 use Rattle.model.proofs.Refusal.{draws-16}
@@ -125,6 +126,10 @@ promises =
         counting-promises = counting;
         picture-examples-hold = picture-examples;
       };
+      balance-promises = λ z gray dots. record {
+        balance-is-judged = balance-answers z gray dots;
+        balance-says = balance-says z gray dots;
+      };
       filed-promises = record {
         check-promises = checking;
         verdict-promises = λ bytes psf gray dots table s f c.
@@ -159,4 +164,5 @@ promises =
       half-peak-is-one-sided = one-sided;
       rest-is-of-unlocked-cells = of-unlocked;
       scan-examples-hold = scan-examples;
+      balance-examples-hold = balance-examples;
     }

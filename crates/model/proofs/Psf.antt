@@ -1,4 +1,5 @@
 -- Laws of the psf and of its autocorrelation c. No mirror symmetry of the psf is used.
+--   total-sum                                     the sum of a list, entry by entry
 --   psf-entry                                     an entry of the psf by its place in the list
 --   autocorrelation-even, autocorrelation-nonneg  c(d) = c(-d), and c ≥ 0
 --   autocorrelation-total, autocorrelation≤       the sum of all c is the square of the psf's sum, so no c is larger
@@ -32,7 +33,7 @@ pub side : (r : ℕ) → 2 * (2 * r) + 1 ≡ 4 * r + 1
 side r = omega arith
 
 -- the sum of a list, entry by entry
-total-sum : (l : List ℕ) → sumTo (length l) (λ n. pos (getD l n 0)) ≡ pos (total l)
+pub total-sum : (l : List ℕ) → sumTo (length l) (λ n. pos (getD l n 0)) ≡ pos (total l)
 unfolding sumTo total
 total-sum [] = refl
 total-sum (x ∷ l) =

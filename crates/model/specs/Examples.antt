@@ -1,6 +1,6 @@
 -- The starred examples of document 01, as one table: a field for each figure. And plates that show what would be a
--- mistake; and the trials of some scans. `examples`, `one-sided`, `of-unlocked` and `scan-examples` of
--- proofs/Examples.antt fill the tables by computing the sums.
+-- mistake; the trials of some scans; and some tone balances. `examples`, `one-sided`, `of-unlocked`, `scan-examples` and
+-- `balance-examples` of proofs/Examples.antt fill the tables by computing the sums.
 use mathlib.Core.Path.{_≡_}
 use mathlib.Core.List.{List, [], _∷_, _++_}
 use Prim.Native.Nat.{ℕ}
@@ -9,16 +9,19 @@ use lib.ListN.{getD}
 use lib.Signed.{_≤ℤ_}
 use Rattle.model.specs.declared.Measures.{Measures}
 use Rattle.model.specs.declared.Stats.{Stats}
+use Rattle.model.specs.declared.ToneBalance.{ToneBalance}
 use Rattle.model.specs.Psf.{autocorrelation, peak}
 use Rattle.model.specs.Error.{Target, targetOf, filteredErrors, squaredError}
 use Rattle.model.specs.Screen.{thresholdAt, startDots}
 use Rattle.model.specs.Change.{toggle, swap, change}
 use Rattle.model.specs.Reference.{Tried, accepted, declined}
-use Rattle.model.specs.Calls.{result, refused, Outcome, Buffers}
+use Rattle.model.specs.Calls.{Reply, result, refused, Outcome, Buffers}
 use Rattle.model.specs.Calls.{startCall, toggleCall, swapCall, toggleScanCall, swapScanCall, convergeCall}
 use Rattle.model.specs.Lists.{Rest}
 use Rattle.model.specs.Text.{bytes}
 use Rattle.model.specs.Program.{output}
+use Rattle.model.specs.Balance.{balanceCall}
+use Rattle.model.specs.Interface.{sized}
 
 -- 1 by 1, r 0, p 1
 abbrev pub single : ℕ → Target
@@ -220,3 +223,18 @@ pub record ScanExamples : Type 0 where
       (negsuc 199 ∷ pos 245 ∷ pos 245 ∷ pos 245 ∷ []) (stats (pos 220075) (pos 220075) 3 0 0 0)
       ≡ outcome (record { stats = stats (pos 220075) (pos 123175) 3 0 0 1; changes = 1; trials = 6 })
       (1 ∷ 1 ∷ 1 ∷ 0 ∷ []) (pos 55 ∷ pos 245 ∷ pos 245 ∷ negsuc 9 ∷ [])
+
+-- ---- request C-15: tone balances
+-- of 2 by 2 cells with a dot in the first
+abbrev pub squareBalance : (gray : List ℕ) → Reply ToneBalance
+squareBalance gray = balanceCall (sized 2 2) gray (1 ∷ 0 ∷ 0 ∷ 0 ∷ []) .reply
+
+pub record BalanceExamples : Type 0 where
+  -- D = -1 and N = 4: -1 and 3
+  pub one-below : squareBalance (255 ∷ 1 ∷ 0 ∷ 0 ∷ []) ≡ result (record { quotient = negsuc 0; remainder = 3 })
+  -- D = -4: -1 and 0; D = -5: -2 and 3
+  pub four-below : squareBalance (255 ∷ 4 ∷ 0 ∷ 0 ∷ []) ≡ result (record { quotient = negsuc 0; remainder = 0 })
+  pub five-below : squareBalance (255 ∷ 5 ∷ 0 ∷ 0 ∷ []) ≡ result (record { quotient = negsuc 1; remainder = 3 })
+  -- D = 0: 0 and 0; D = 5: 1 and 1
+  pub none-apart : squareBalance (255 ∷ 0 ∷ 0 ∷ 0 ∷ []) ≡ result (record { quotient = pos 0; remainder = 0 })
+  pub five-above : squareBalance (250 ∷ 0 ∷ 0 ∷ 0 ∷ []) ≡ result (record { quotient = pos 1; remainder = 1 })

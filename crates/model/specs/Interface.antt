@@ -14,6 +14,7 @@ use Rattle.model.specs.declared.Size.{Size}
 use Rattle.model.specs.declared.Stats.{Stats}
 use Rattle.model.specs.declared.ScanResult.{ScanResult}
 use Rattle.model.specs.declared.ConvergeResult.{ConvergeResult}
+use Rattle.model.specs.declared.ToneBalance.{ToneBalance}
 use Rattle.model.specs.declared.Resting.{Resting}
 use Rattle.model.specs.declared.Resting.the-variants.{Rests, Lowers, Unstarted}
 use Rattle.model.specs.declared.Verdict.{Verdict}
@@ -304,6 +305,10 @@ sized w h = record { width = w; height = h }
 abbrev pub pictureBehind : Reply Size → ℕ × ℕ → ℕ × ℕ
 pictureBehind r (w, h) = (after (λ z. z .width) w r, after (λ z. z .height) h r)
 
+-- ---- the tone balance: behind the pointers its quotient and its remainder
+abbrev pub balanceBehind : Reply ToneBalance → ℤ × ℕ → ℤ × ℕ
+balanceBehind r (q, k) = (after (λ b. b .quotient) q r, after (λ b. b .remainder) k r)
+
 -- ---- the version of the library: 1,000,000 × major + 1,000 × minor + patch
 abbrev pub version : ℕ
-version = 1000000 * 3 + 1000 * 0 + 0
+version = 1000000 * 3 + 1000 * 1 + 0

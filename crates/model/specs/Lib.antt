@@ -38,6 +38,8 @@ pub mod Netpbm
 pub mod PictureHeader
 pub mod PictureCalls
 pub mod PictureExamples
+-- Tone balance (02, C-15)
+pub mod Balance
 -- the C interface
 pub mod Interface
 -- Examples
@@ -45,5 +47,6 @@ pub mod Examples
 -- what is promised
 pub mod ProgramPromises
 pub mod PicturePromises
+pub mod BalancePromises
 pub mod FiledPromises
 pub mod Promises

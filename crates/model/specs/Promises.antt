@@ -13,6 +13,7 @@ use lib.ListN.{length, getD, take, drop}
 use lib.Seq.{sets}
 use Rattle.algebra.specs.Sum.{sumFrom}
 use Rattle.model.specs.declared.Measures.{Measures}
+use Rattle.model.specs.declared.Size.{Size}
 use Rattle.model.specs.declared.Stats.{Stats}
 use Rattle.model.specs.declared.ConvergeResult.{ConvergeResult}
 use Rattle.model.specs.declared.Item.the-variants.{Number, Other}
@@ -40,11 +41,12 @@ use Rattle.model.specs.Format.{readSheet}
 use Rattle.model.specs.SheetCalls.{withGiven, writtenSheet, readCall, writeCall}
 use Rattle.model.specs.ProgramPromises.{ProgramPromises}
 use Rattle.model.specs.PicturePromises.{PicturePromises}
+use Rattle.model.specs.BalancePromises.{BalancePromises}
 use Rattle.model.specs.FiledPromises.{FiledPromises}
 use Rattle.model.specs.Interface.{measuresSize, measuresIn, statsSize, statsNumbers, statsIn, sliceRefusal}
 use Rattle.model.specs.Interface.{startOver, toggleOver, swapOver, readOver, writeOver, Told, longestSheet}
 use Rattle.model.specs.Interface.{Slices, slicesOf, heldIn, callOver, runOver}
-use Rattle.model.specs.Examples.{Examples, OneSided, OfUnlocked, ScanExamples}
+use Rattle.model.specs.Examples.{Examples, OneSided, OfUnlocked, ScanExamples, BalanceExamples}
 
 -- ---- Plate, spread and peak: of any psf
 module _ (r : ℕ) (psf : List ℕ) where
@@ -424,6 +426,7 @@ pub record Promises : Type 0 where
       → WritingPromises m psf gray dots out k
   pub program-promises : (input : List ℕ) → ProgramPromises input
   pub picture-promises : PicturePromises
+  pub balance-promises : (z : Size) (gray dots : List ℕ) → BalancePromises z gray dots
   pub filed-promises : FiledPromises
   -- so many bytes suffice for every sheet: what is refused for nothing else is written
   pub sheets-are-short : (s : Sheet) → Valid s → length (sheetText s) ≤ longestSheet
@@ -440,3 +443,5 @@ pub record Promises : Type 0 where
   pub rest-is-of-unlocked-cells : OfUnlocked
   -- the trials of scans, one of them where the dots at the start of the scan would give another number
   pub scan-examples-hold : ScanExamples
+  -- tone balances, that of document 02 among them
+  pub balance-examples-hold : BalanceExamples

@@ -110,7 +110,7 @@ pub enum Writing {
     Refused(u32, usize),
 }
 
-// The size of a picture: width and height in cells.
+// The size of a plate or a picture: width and height in cells.
 pub struct Size {
     pub width: usize,
     pub height: usize,
@@ -125,6 +125,18 @@ pub enum Picture {
 // The answer of writing a picture: its length in bytes, or refused with the number of document 01.
 pub enum Written {
     Done(usize),
+    Refused(u32),
+}
+
+// The tone balance of a plate: by how much its dots are darker than its gray, divided by its cells.
+pub struct ToneBalance {
+    pub quotient: i64,
+    pub remainder: usize,
+}
+
+// The answer of the tone balance: its two numbers, or refused with the number of document 01.
+pub enum Balanced {
+    Done(ToneBalance),
     Refused(u32),
 }
 
