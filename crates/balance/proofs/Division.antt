@@ -1,0 +1,56 @@
+-- What `divide` answers meets the condition of a tone balance, case by case; so it is the one that does (`divides-is`).
+--   from-0, exact-below, left-below  a difference that is not below 0; below 0 and a multiple of n; below 0 and none
+--   quotient-few                     the quotient is small enough for its width
+use mathlib.Core.List.{[], _∷_}
+use mathlib.Core.Path.{_≡_}
+use Prim.Native.Nat.{ℕ, _+_, _-_, _/_, _%_, _≤_, _<_}
+use native.Mathlib.Nat as NatL
+use native.Mathlib.Omega.{arith}
+use lib.IntN.{ℤ, pos, negℤ, _-ℤ_}
+use Rattle.algebra.proofs.Solver.{reify}
+use Rattle.algebra.proofs.Order.{show≡}
+use Rattle.model.specs.Balance.{divided}
+use Rattle.model.proofs.Balance.{divides-is}
+
+pub quotient-few : (d n : ℕ) {k : ℕ} → d ≤ k → d / n ≤ k
+quotient-few d n h = omega (arith, NatL.div-le-self d n)
+
+-- what the dots are worth less the gray, divided by n cells
+module _ (dark gray n : ℕ) (some : 0 < n) where
+  abbrev is : ℤ → ℕ → Type 0
+  is q r = record { quotient = q; remainder = r } ≡ divided (pos dark -ℤ pos gray) n
+
+  pub from-0 : gray ≤ dark → is (pos ((dark - gray) / n)) ((dark - gray) % n)
+  from-0 h =
+      let q : ℕ = (dark - gray) / n in
+      let r : ℕ = (dark - gray) % n in
+      divides-is (record {
+        adds-up =
+            show≡ (pos dark ∷ pos gray ∷ pos q ∷ pos n ∷ pos r ∷ []) (search reify depth 40)
+            (omega (arith, h, NatL.div-add-mod' (dark - gray) n));
+        is-below = NatL.mod-lt (dark - gray) some;
+      })
+
+  module _ (h : dark < gray) where
+    pub exact-below : (gray - dark) % n ≡ 0 → is (negℤ (pos ((gray - dark) / n))) 0
+    exact-below e =
+        let q : ℕ = (gray - dark) / n in
+        divides-is (record {
+          adds-up =
+              show≡ (pos dark ∷ pos gray ∷ pos q ∷ pos n ∷ []) (search reify depth 40)
+              (omega (arith, h, e, NatL.div-add-mod' (gray - dark) n));
+          is-below = some;
+        })
+
+    pub left-below : ((gray - dark) % n ≡ 0 → ⊥)
+        → is (negℤ (pos ((gray - dark) / n + 1))) (n - (gray - dark) % n)
+    left-below e =
+        let q : ℕ = (gray - dark) / n in
+        let r : ℕ = (gray - dark) % n in
+        let low : r < n = NatL.mod-lt (gray - dark) some in
+        divides-is (record {
+          adds-up =
+              show≡ (pos dark ∷ pos gray ∷ pos q ∷ pos n ∷ pos (n - r) ∷ []) (search reify depth 40)
+              (omega (arith, h, low, NatL.add-mul q 1 n, NatL.div-add-mod' (gray - dark) n));
+          is-below = omega (arith, e, low);
+        })
