@@ -6,14 +6,16 @@ ghost use Rattle.model.specs.Basic.{AtMost};
 ghost use Rattle.model.specs.Calls.{buffers, autocorrelationCall, filteredErrorCall, squaredErrorCall};
 ghost use Rattle.model.specs.SheetCalls.{sheetBuffers};
 ghost use Rattle.model.specs.FiledCalls.{checkBuffers};
+ghost use Rattle.model.specs.Balance.{balanceCall};
 ghost use Rattle.model.specs.PictureCalls.{readPbmCall, readPgmCall, writePbmCall, writePgmCall, countRowsCall};
 ghost use Rattle.model.specs.Interface.{Makes, Fills, valueBehind, statsBehind, triedBehind, scanBehind};
 ghost use Rattle.model.specs.Interface.{convergeBehind};
 ghost use Rattle.model.specs.Interface.{startOver, toggleOver, swapOver, toggleScanOver, swapScanOver, convergeOver};
 ghost use Rattle.model.specs.Interface.{readBehind, readOver, writeBehind, writeOver, checkBehind, checkOver};
-ghost use Rattle.model.specs.Interface.{pictureBehind, sized, version};
+ghost use Rattle.model.specs.Interface.{pictureBehind, balanceBehind, sized, version};
 use model::Cell;
 use model::Size;
+use platemaker_answers::lay_balance;
 use platemaker_answers::lay_filled;
 use platemaker_answers::lay_reading;
 use platemaker_answers::lay_squared_error;
@@ -81,6 +83,27 @@ pub extern "C" fn pm_squared_error(
 {
     let answer = filter::squared_error(width, height, radius, psf, gray, dots);
     lay_squared_error(answer, error)
+}
+
+// The tone balance.
+#[no_mangle]
+pub extern "C" fn pm_tone_balance(
+    width: usize,
+    height: usize,
+    gray: &[u8],
+    dots: &[u8],
+    quotient: &mut i64,
+    remainder: &mut usize,
+) -> u32
+    ensures { λ r. ⌜ Makes (balanceCall (sized width height) (now (gray .entry)) (now (dots .entry))) balanceBehind
+        (now (quotient .entry), now (remainder .entry)) r tt (now (quotient .exit), now (remainder .exit)) ⌝ }
+{
+    let size = Size {
+        width: width,
+        height: height,
+    };
+    let answer = balance::tone_balance(size, gray, dots);
+    lay_balance(answer, quotient, remainder)
 }
 
 // A start.

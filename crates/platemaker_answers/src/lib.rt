@@ -3,8 +3,10 @@
 ghost use mathlib.Core.Path.{_≡_};
 ghost use lib.ListN.{length};
 ghost use Rattle.model.specs.Calls.{filled, valued};
+ghost use Rattle.model.specs.Balance.{balanced};
 ghost use Rattle.model.specs.SheetCalls.{readingOf, writingOf};
-ghost use Rattle.model.specs.Interface.{status, measuresSize, Lays, valueBehind, readBehind, writeBehind};
+ghost use Rattle.model.specs.Interface.{status, measuresSize, Lays, valueBehind, readBehind, writeBehind, balanceBehind};
+use model::Balanced;
 use model::Filled;
 use model::Reading;
 use model::SquaredError;
@@ -31,6 +33,22 @@ pub fn lay_squared_error(answer: SquaredError, error: &mut i64) -> u32
             0
         }
         SquaredError::Refused(number) => number,
+    }
+}
+
+// the same of the tone balance, with its quotient and its remainder
+pub fn lay_balance(answer: Balanced, quotient: &mut i64, remainder: &mut usize) -> u32
+    ensures { λ r. ⌜ Lays (balanced answer) balanceBehind (now (quotient .entry), now (remainder .entry)) r
+        (now (quotient .exit), now (remainder .exit)) ⌝ }
+{
+    match answer {
+        Balanced::Done(balance) => {
+            let whole = balance.quotient;
+            *quotient = whole;
+            *remainder = balance.remainder;
+            0
+        }
+        Balanced::Refused(number) => number,
     }
 }
 
