@@ -38,8 +38,8 @@ extern "C" {
 #endif
 
 /* The version of this header, as text and as a number: 1,000,000 * major + 1,000 * minor + patch. */
-#define PM_VERSION_TEXT "3.0.0"
-#define PM_VERSION 3000000
+#define PM_VERSION_TEXT "3.1.0"
+#define PM_VERSION 3001000
 
 /* The version of the library that is linked: PM_VERSION where header and library belong together. */
 uint32_t pm_version(void);
@@ -151,6 +151,15 @@ uint32_t pm_filtered_error(size_t width, size_t height, size_t radius, const uin
 /* The squared error, into *error. Draws 1, 2, 5, 6, 7. */
 uint32_t pm_squared_error(size_t width, size_t height, size_t radius, const uint8_t *psf, size_t psf_len,
                           const uint8_t *gray, size_t gray_len, const uint8_t *dots, size_t dots_len, int64_t *error);
+
+/*
+ * The tone balance: by how much the dots are darker than the gray. D is 255 * dots less the sum of gray, N the number of
+ * cells. *quotient and *remainder are the whole numbers with D = *quotient * N + *remainder, the remainder from 0 to
+ * N - 1 also where D is negative: D = -1 and N = 4 gives -1 and 3. The plate is lighter than its ground exactly when
+ * *quotient is below 0, as dark as it exactly when both are 0, and else darker. Draws 1, 5, 7.
+ */
+uint32_t pm_tone_balance(size_t width, size_t height, const uint8_t *gray, size_t gray_len, const uint8_t *dots,
+                         size_t dots_len, int64_t *quotient, size_t *remainder);
 
 /*
  * The calls on a plate. Each draws 5 where measures_len is not PM_MEASURES, before all else, and then 1 to 4 by the
@@ -373,6 +382,13 @@ static inline uint32_t pm_plate_measure(const struct pm_plate *plate, int64_t *e
     return pm_squared_error(plate->measures[PM_MEASURE_WIDTH], plate->measures[PM_MEASURE_HEIGHT],
                             plate->measures[PM_MEASURE_RADIUS], plate->psf, pm_plate_entries(plate), plate->gray, cells,
                             plate->dots, cells, error);
+}
+
+/* pm_tone_balance, of the plate. */
+static inline uint32_t pm_plate_balance(const struct pm_plate *plate, int64_t *quotient, size_t *remainder) {
+    size_t cells = pm_plate_length(plate);
+    return pm_tone_balance(plate->measures[PM_MEASURE_WIDTH], plate->measures[PM_MEASURE_HEIGHT], plate->gray, cells,
+                           plate->dots, cells, quotient, remainder);
 }
 
 #ifdef __cplusplus

@@ -13,6 +13,9 @@ extern "C" {
     pub fn pm_squared_error(width: usize, height: usize, radius: usize, psf: *const u8, psf_len: usize, gray: *const u8,
                             gray_len: usize, dots: *const u8, dots_len: usize, error: *mut i64) -> u32;
 
+    pub fn pm_tone_balance(width: usize, height: usize, gray: *const u8, gray_len: usize, dots: *const u8,
+                           dots_len: usize, quotient: *mut i64, remainder: *mut usize) -> u32;
+
     pub fn pm_start(measures: *const usize, measures_len: usize, psf: *const u8, psf_len: usize, gray: *const u8,
                     gray_len: usize, dots: *mut u8, dots_len: usize, table: *mut i32, table_len: usize, stats: *mut i64,
                     stats_len: usize) -> u32;

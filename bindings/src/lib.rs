@@ -32,8 +32,8 @@ pub use refusal::*;
 
 /// The version of the header that this crate follows, in words and as a number: 1,000,000 * major + 1,000 * minor +
 /// patch.
-pub const VERSION_TEXT: &str = "3.0.0";
-pub const VERSION: u32 = 3_000_000;
+pub const VERSION_TEXT: &str = "3.1.0";
+pub const VERSION: u32 = 3_001_000;
 
 /// Sizes that suffice for every plate: width, and height; cells; the entries of a psf; the bytes of a sheet and of a
 /// filed sheet; those of a PBM and of a PGM as they are written.
@@ -166,6 +166,39 @@ pub fn squared_error(
             dots.as_ptr(),
             dots.len(),
             error,
+        )
+    }
+}
+
+/// The tone balance, by how much the dots are darker than the gray, into quotient and remainder: D = 255 * dots less the
+/// sum of gray is quotient * N + remainder, N being the number of cells and the remainder from 0 to N - 1, also where D
+/// is negative. The plate is lighter than its ground exactly when the quotient is below 0, as dark as it exactly when
+/// both are 0, and else darker. Draws 1, 5, 7.
+///
+/// ```
+/// let (mut quotient, mut remainder) = (0, 0);
+/// let (gray, dots) = ([255, 1, 0, 0], [1, 0, 0, 0]);
+/// assert_eq!(platemaker::tone_balance(2, 2, &gray, &dots, &mut quotient, &mut remainder), 0);
+/// assert_eq!((quotient, remainder), (-1, 3));
+/// ```
+pub fn tone_balance(
+    width: usize,
+    height: usize,
+    gray: &[u8],
+    dots: &[u8],
+    quotient: &mut i64,
+    remainder: &mut usize,
+) -> u32 {
+    unsafe {
+        header::pm_tone_balance(
+            width,
+            height,
+            gray.as_ptr(),
+            gray.len(),
+            dots.as_ptr(),
+            dots.len(),
+            quotient,
+            remainder,
         )
     }
 }
