@@ -182,7 +182,7 @@ pub enum Fault {
     CellsBeforeLocks,
     /// 23 before 20
     LockBeforeState,
-    /// 16 by every call that draws 7, the table, E and the writers among them
+    /// 16 by every call that draws 7, the table, E, the tone balance and the writers among them
     LocksJudgedWithDots,
     /// 16 not judged at a start
     LocksNotJudgedAtStart,
@@ -232,6 +232,46 @@ pub enum Fault {
     ChangesForTrials(Call),
     /// the trials set to 0 where a scan of a kind is refused
     RefusedTrialsCleared(Call),
+    /// the quotient of a tone balance cut towards 0
+    BalanceCut,
+    /// the remainder of a tone balance that of D without its sign
+    BalanceRemainderOfSize,
+    /// a remainder of N for one of 0, and the quotient one less
+    BalanceRemainderN,
+    /// the sum of gray less 255 * dots for D
+    BalanceReversed,
+    /// blanks counted as dots in D
+    BalanceOfBlanks,
+    /// locked cells left out of D
+    BalanceOfFreeCells,
+    /// the width for N
+    BalanceByWidth,
+    /// the height for N
+    BalanceByHeight,
+    /// locked cells left out of N
+    BalanceByFreeCells,
+    /// a refusal that a tone balance does not judge: 1, 5 or 7
+    BalancePassesOver(u32),
+    /// 1 of a tone balance judged for the width alone
+    BalanceWidthAlone,
+    /// 1 of a tone balance judged for the height alone
+    BalanceHeightAlone,
+    /// 5 of a tone balance judged for gray alone
+    BalanceGrayAlone,
+    /// 5 of a tone balance judged for dots alone
+    BalanceDotsAlone,
+    /// 5 of a tone balance only where gray and dots are of different lengths
+    BalanceLengthsCompared,
+    /// 5 before 1 in a tone balance
+    BalanceLengthFirst,
+    /// 7 before 5 in a tone balance
+    BalanceDotsFirst,
+    /// 16 drawn by a tone balance
+    BalanceLocksJudged,
+    /// the quotient set to 0 where a tone balance is refused
+    RefusedQuotientCleared,
+    /// the remainder set to 0 where a tone balance is refused
+    RefusedRemainderCleared,
     /// two neighbours in the order of the refusals of plates exchanged, this one and the next
     Exchanged(usize),
 }
@@ -244,7 +284,7 @@ impl Fault {
     }
 }
 
-const SINGLE: [Fault; 122] = [
+const SINGLE: [Fault; 144] = [
     Fault::PsfTransposed,
     Fault::Folded,
     Fault::TiesAccepted,
@@ -367,4 +407,26 @@ const SINGLE: [Fault; 122] = [
     Fault::ChangesForTrials(Call::SwapScan),
     Fault::RefusedTrialsCleared(Call::ToggleScan),
     Fault::RefusedTrialsCleared(Call::SwapScan),
+    Fault::BalanceCut,
+    Fault::BalanceRemainderOfSize,
+    Fault::BalanceRemainderN,
+    Fault::BalanceReversed,
+    Fault::BalanceOfBlanks,
+    Fault::BalanceOfFreeCells,
+    Fault::BalanceByWidth,
+    Fault::BalanceByHeight,
+    Fault::BalanceByFreeCells,
+    Fault::BalancePassesOver(1),
+    Fault::BalancePassesOver(5),
+    Fault::BalancePassesOver(7),
+    Fault::BalanceWidthAlone,
+    Fault::BalanceHeightAlone,
+    Fault::BalanceGrayAlone,
+    Fault::BalanceDotsAlone,
+    Fault::BalanceLengthsCompared,
+    Fault::BalanceLengthFirst,
+    Fault::BalanceDotsFirst,
+    Fault::BalanceLocksJudged,
+    Fault::RefusedQuotientCleared,
+    Fault::RefusedRemainderCleared,
 ];

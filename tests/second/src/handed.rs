@@ -12,6 +12,7 @@ pub enum Call {
     Autocorrelation,
     FilteredError,
     SquaredError,
+    ToneBalance,
     Start,
     TryToggle,
     TrySwap,
@@ -29,10 +30,11 @@ pub enum Call {
 }
 
 impl Call {
-    pub const ALL: [Call; 17] = [
+    pub const ALL: [Call; 18] = [
         Call::Autocorrelation,
         Call::FilteredError,
         Call::SquaredError,
+        Call::ToneBalance,
         Call::Start,
         Call::TryToggle,
         Call::TrySwap,
@@ -67,7 +69,7 @@ impl Call {
     /// Whether the call has to do with a plate's numbers alone, and not with a file or its bytes.
     pub fn is_on_plate(self) -> bool {
         use Call::*;
-        self.is_later() || matches!(self, Autocorrelation | FilteredError | SquaredError | Start)
+        self.is_later() || matches!(self, Autocorrelation | FilteredError | SquaredError | ToneBalance | Start)
     }
 
     /// The cells that an attempt names.
@@ -85,6 +87,7 @@ impl Call {
         match self {
             Call::Autocorrelation => &[2, 5, 6],
             Call::FilteredError | Call::SquaredError => &[1, 2, 5, 6, 7],
+            Call::ToneBalance => &[1, 5, 7],
             Call::Start => &[1, 2, 3, 4, 5, 6, 7, 16],
             Call::TryToggle => &[1, 2, 3, 4, 5, 6, 7, 16, 8, 20, 21, 23],
             Call::TrySwap => &[1, 2, 3, 4, 5, 6, 7, 16, 8, 9, 20, 21, 23, 22],
@@ -101,7 +104,7 @@ impl Call {
     }
 }
 
-/// What a call is handed and where it writes. Each call takes its own part; the remainder has to stay as it is.
+/// What a call is handed and where it writes. Each call takes its own part; the rest has to stay as it is.
 #[derive(Clone, PartialEq, Debug, Default)]
 pub struct Handed {
     pub width: usize,
@@ -122,6 +125,9 @@ pub struct Handed {
     pub col2: usize,
     pub autocorrelation: Vec<i32>,
     pub error: i64,
+    /// the tone balance
+    pub quotient: i64,
+    pub remainder: usize,
     pub change: i64,
     pub changes: u64,
     pub trials: u64,

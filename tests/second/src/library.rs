@@ -77,8 +77,8 @@ macro_rules! lent {
 lent! {
     psf: u8, gray: u8, dots: u8, table: i32, stats: i64, autocorrelation: i32, bytes: u8, measures: usize, out: u8,
     packed: u8, counts: u32, verdict: i64;
-    error: i64, change: i64, changes: u64, trials: u64, scans: u64, length: usize, offset: usize,
-    read_width: usize, read_height: usize
+    error: i64, quotient: i64, remainder: usize, change: i64, changes: u64, trials: u64, scans: u64, length: usize,
+    offset: usize, read_width: usize, read_height: usize
 }
 
 /// Makes a call of the library: answers what it returned and whether the guards are as they were, and the slice of
@@ -95,6 +95,7 @@ fn make(call: Call, handed: &Handed, m: &[usize], lent: &mut Lent) -> u32 {
     use platemaker::*;
     let &Handed { width, height, radius, row, col, row2, col2, .. } = handed;
     let (psf, gray, dots) = (lent.psf.lend(), lent.gray.lend(), lent.dots.lend());
+    let (quotient, remainder) = (lent.quotient.number(), lent.remainder.number());
     let (table, stats, change) = (lent.table.lend(), lent.stats.lend(), lent.change.number());
     let (changes, trials) = (lent.changes.number(), lent.trials.number());
     let (bytes, out, length, offset) = (lent.bytes.lend(), lent.out.lend(), lent.length.number(), lent.offset.number());
@@ -103,6 +104,7 @@ fn make(call: Call, handed: &Handed, m: &[usize], lent: &mut Lent) -> u32 {
         Call::Autocorrelation => autocorrelation(radius, psf, lent.autocorrelation.lend()),
         Call::FilteredError => filtered_error(width, height, radius, psf, gray, dots, table),
         Call::SquaredError => squared_error(width, height, radius, psf, gray, dots, lent.error.number()),
+        Call::ToneBalance => tone_balance(width, height, gray, dots, quotient, remainder),
         Call::Start => start(m, psf, gray, dots, table, stats),
         Call::TryToggle => try_toggle(m, psf, gray, dots, table, stats, row, col, change),
         Call::TrySwap => try_swap(m, psf, gray, dots, table, stats, row, col, row2, col2, change),

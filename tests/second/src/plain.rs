@@ -1,6 +1,7 @@
-//! The calls of document 01 save those for sheets, from its plain sums, with the locked cells of request C-12 and the
-//! trials of request C-14, and the judging of what any call is handed. The plate here is document 01's plain plate: it
-//! has no table. Wherever a table or a squared error is wanted, the sum is taken over the dots.
+//! The calls of document 01 save those for sheets, from its plain sums, with the locked cells of request C-12, the trials
+//! of request C-14 and the tone balance of request C-15, and the judging of what any call is handed. The plate here is
+//! document 01's plain plate: it has no table. Wherever a table or a squared error is wanted, the sum is taken over the
+//! dots.
 
 use crate::fault::Fault;
 use crate::handed::{
@@ -87,6 +88,19 @@ pub fn partners(reach: usize) -> Vec<(isize, isize)> {
     let mut offsets: Vec<_> = square(reach as isize).filter(|&d| d != (0, 0)).collect();
     offsets.sort_by_key(|&(down, right)| (Reverse(down * down + right * right), down, right));
     offsets
+}
+
+/// The whole number q and the remainder with D = q * N + remainder, the remainder from 0 to N - 1: from q = 0 on, where
+/// the remainder is D, q falls by 1 while the remainder is below 0, and rises by 1 while it is above N - 1.
+pub fn parted(d: i64, n: i64) -> (i64, i64) {
+    let (mut q, mut remainder) = (0, d);
+    while remainder < 0 {
+        (q, remainder) = (q - 1, remainder + n);
+    }
+    while remainder > n - 1 {
+        (q, remainder) = (q + 1, remainder - n);
+    }
+    (q, remainder)
 }
 
 /// What a scan comes to: its accepted changes and its trials, which it answers, and what could be taken for trials.
@@ -573,14 +587,29 @@ impl Second {
             Call::CountRows => self.count_rows(handed),
             _ => self.judge(call, handed).map(|()| self.work(call, handed)),
         };
-        if done.is_err() && self.has(Fault::RefusedTrialsCleared(call)) {
-            handed.trials = 0;
+        if done.is_err() {
+            self.clear_refused(call, handed);
         }
         done.err().unwrap_or(0)
     }
 
+    /// A result set to 0 where a call is refused, a mistake.
+    fn clear_refused(&self, call: Call, handed: &mut Handed) {
+        match self.fault {
+            Some(Fault::RefusedTrialsCleared(by)) if by == call => handed.trials = 0,
+            Some(Fault::RefusedQuotientCleared) if call == Call::ToneBalance => handed.quotient = 0,
+            Some(Fault::RefusedRemainderCleared) if call == Call::ToneBalance => handed.remainder = 0,
+            _ => {}
+        }
+    }
+
     pub fn has(&self, fault: Fault) -> bool {
         self.fault == Some(fault)
+    }
+
+    /// Whether it has a mistake that is one of the tone balance alone, and this is that call.
+    fn has_in_balance(&self, call: Call, fault: Fault) -> bool {
+        call == Call::ToneBalance && self.has(fault)
     }
 
     /// Judges what a call is handed: how many measures there are, before all else; then least number first, then the
@@ -592,6 +621,8 @@ impl Second {
             Some(Fault::Exchanged(at)) => order.swap(at, at + 1),
             Some(Fault::CellsBeforeLocks) => order[7..10].rotate_left(1),
             Some(Fault::LockBeforeState) => order[10..13].rotate_right(1),
+            Some(Fault::BalanceLengthFirst) if call == Call::ToneBalance => order.swap(0, 4),
+            Some(Fault::BalanceDotsFirst) if call == Call::ToneBalance => order.swap(4, 6),
             _ => {}
         }
         let mut judged = order.into_iter().filter(|&number| self.is_judged(number, call));
@@ -600,18 +631,20 @@ impl Second {
 
     /// Whether a number is one of a call's own.
     fn is_judged(&self, number: u32, call: Call) -> bool {
-        let with_dots = number == 16 && self.has(Fault::LocksJudgedWithDots);
-        call.refusals().contains(if with_dots { &7 } else { &number })
+        let in_balance = self.has_in_balance(call, Fault::BalanceLocksJudged);
+        let with_dots = number == 16 && (in_balance || self.has(Fault::LocksJudgedWithDots));
+        let passed_over = self.has_in_balance(call, Fault::BalancePassesOver(number));
+        !passed_over && call.refusals().contains(if with_dots { &7 } else { &number })
     }
 
     /// Whether a call draws this number, one of its own, none of those before it being drawn.
     fn draws(&self, number: u32, call: Call, handed: &Handed) -> bool {
         match number {
-            1 => self.outside(handed.width) || self.outside(handed.height),
+            1 => self.sizes_outside(call, handed),
             2 => handed.radius > 3,
             3 => handed.reach > 6,
             4 => handed.start > 2,
-            5 => self.other_count(call, handed) || other_length(call, handed),
+            5 => self.other_count(call, handed) || self.other_length(call, handed),
             6 => self.sum_outside(&handed.psf),
             7 => self.judges_dots(call, handed) && handed.dots.iter().any(|&dot| dot > 1),
             16 => self.judges_locks(call, handed) && self.contradicts(handed),
@@ -634,7 +667,26 @@ impl Second {
         }
     }
 
+    /// 5: a slice of another length than its measure.
+    fn other_length(&self, call: Call, handed: &Handed) -> bool {
+        let mut lengths = lengths(call, handed);
+        match self.fault.filter(|_| call == Call::ToneBalance) {
+            Some(Fault::BalanceGrayAlone) => lengths.truncate(1),
+            Some(Fault::BalanceDotsAlone) => drop(lengths.remove(0)),
+            Some(Fault::BalanceLengthsCompared) => return handed.gray.len() != handed.dots.len(),
+            _ => {}
+        }
+        lengths.iter().any(|(length, measure)| length != measure)
+    }
+
     /// 1: width or height outside 1 to 256.
+    fn sizes_outside(&self, call: Call, handed: &Handed) -> bool {
+        let width = !self.has_in_balance(call, Fault::BalanceHeightAlone) && self.outside(handed.width);
+        let height = !self.has_in_balance(call, Fault::BalanceWidthAlone) && self.outside(handed.height);
+        width || height
+    }
+
+    /// A size outside 1 to 256.
     pub fn outside(&self, size: usize) -> bool {
         let largest = if self.has(Fault::Size257Taken) { 257 } else { 256 };
         size < 1 || size > largest
@@ -723,8 +775,47 @@ impl Second {
             }
             Call::FilteredError => handed.table = narrow(Plate::new(handed, self.fault).filtered_error()),
             Call::SquaredError => handed.error = Plate::new(handed, self.fault).squared_error(),
+            Call::ToneBalance => self.tone_balance(handed),
             Call::Start => self.start(handed),
             _ => self.later(call, handed),
+        }
+    }
+
+    /// The tone balance: D parted by the number of cells.
+    fn tone_balance(&self, handed: &mut Handed) {
+        let free = || handed.gray.iter().filter(|&&gray| lock(gray, None).is_none()).count();
+        let cells = match self.fault {
+            Some(Fault::BalanceByWidth) => handed.width,
+            Some(Fault::BalanceByHeight) => handed.height,
+            Some(Fault::BalanceByFreeCells) => free(),
+            _ => handed.cells(),
+        };
+        // no plate has 0 cells, but a mistake can come to that
+        let (d, n) = (self.darker(handed), cells.max(1) as i64);
+        let (quotient, remainder) = match (parted(d, n), self.fault) {
+            ((_, remainder), Some(Fault::BalanceCut)) => (d / n, remainder),
+            ((quotient, _), Some(Fault::BalanceRemainderOfSize)) => (quotient, d.abs() % n),
+            ((quotient, 0), Some(Fault::BalanceRemainderN)) => (quotient - 1, n),
+            (parts, _) => parts,
+        };
+        (handed.quotient, handed.remainder) = (quotient, usize::try_from(remainder).expect("0 or more"));
+    }
+
+    /// D, by how much a plate is darker than its ground: 255 * dots less the sum of gray.
+    pub fn darker(&self, handed: &Handed) -> i64 {
+        let sum = |bytes: &[u8]| bytes.iter().map(|&byte| i64::from(byte)).sum::<i64>();
+        let d = 255 * sum(&handed.dots) - sum(&handed.gray);
+        match self.fault {
+            Some(Fault::BalanceReversed) => -d,
+            Some(Fault::BalanceOfBlanks) => {
+                let blanks = handed.dots.iter().filter(|&&dot| dot == 0).count();
+                255 * blanks as i64 - sum(&handed.gray)
+            }
+            Some(Fault::BalanceOfFreeCells) => {
+                let cells = handed.gray.iter().zip(&handed.dots).filter(|(&gray, _)| lock(gray, None).is_none());
+                cells.map(|(&gray, &dot)| 255 * i64::from(dot) - i64::from(gray)).sum()
+            }
+            _ => d,
         }
     }
 
@@ -794,27 +885,22 @@ fn equal_dots(handed: &Handed) -> bool {
     plate.dot((handed.row, handed.col)) == plate.dot((handed.row2, handed.col2))
 }
 
-/// 5: a slice of another length than its measure.
-fn other_length(call: Call, handed: &Handed) -> bool {
-    lengths(call, handed).iter().any(|(length, measure)| length != measure)
-}
-
 /// The slices that a call is lent save the measures, each with its length and its measure. Called when 1 and 2 are not
-/// drawn.
+/// drawn; by a mistake 1 may be passed over, and then there may be more cells than can be counted.
 fn lengths(call: Call, handed: &Handed) -> Vec<(usize, usize)> {
     let square = |side: usize| side * side;
     let psf = || (handed.psf.len(), square(2 * handed.radius + 1));
-    let gray = || (handed.gray.len(), handed.cells());
-    let dots = || (handed.dots.len(), handed.cells());
+    let cells = handed.width.saturating_mul(handed.height);
+    let (gray, dots) = (|| (handed.gray.len(), cells), || (handed.dots.len(), cells));
     let packed = || (handed.packed.len(), handed.height * row_bytes(handed.width));
     match call {
         Call::Autocorrelation => return vec![psf(), (handed.autocorrelation.len(), square(4 * handed.radius + 1))],
+        Call::ToneBalance => return vec![gray(), dots()],
         Call::WritePbm => return vec![dots()],
         Call::WritePgm => return vec![gray()],
         Call::CountRows => return vec![packed(), (handed.counts.len(), handed.height)],
         _ => {}
     }
-    let cells = handed.cells();
     let mut lengths = vec![psf(), gray(), dots()];
     if call.is_later() || matches!(call, Call::Start | Call::FilteredError) {
         lengths.push((handed.table.len(), cells));

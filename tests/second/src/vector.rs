@@ -17,6 +17,7 @@ pub fn hand(left: &str, handed: &mut Handed) -> Result<Call, String> {
     let call = name(fields.next().unwrap_or_default(), handed)?;
     fields.try_for_each(|field| set(field, handed))?;
     *handed = Handed { error: 7, change: 7, changes: 7, trials: 7, scans: 7, ..take(handed) };
+    (handed.quotient, handed.remainder) = (7, 7);
     (handed.length, handed.offset, handed.read_width, handed.read_height) = (7, 7, 7, 7);
     Ok(call)
 }
@@ -35,6 +36,7 @@ fn name(words: &str, handed: &mut Handed) -> Result<Call, String> {
         "autocorrelation" => (Call::Autocorrelation, 0),
         "filtered-error" => (Call::FilteredError, 0),
         "squared-error" => (Call::SquaredError, 0),
+        "tone-balance" => (Call::ToneBalance, 0),
         "start" => (Call::Start, 0),
         "toggle" => (Call::TryToggle, 2),
         "swap" => (Call::TrySwap, 4),
@@ -105,6 +107,7 @@ fn written(call: Call) -> &'static [&'static str] {
         Call::Autocorrelation => &["autocorrelation"],
         Call::FilteredError => &["table"],
         Call::SquaredError => &["error"],
+        Call::ToneBalance => &["quotient", "remainder"],
         Call::Start => &["dots", "table", "stats"],
         Call::TryToggle | Call::TrySwap => &["change", "dots", "table", "stats"],
         Call::ToggleScan | Call::SwapScan => &["changes", "trials", "dots", "table", "stats"],
@@ -123,6 +126,8 @@ fn written(call: Call) -> &'static [&'static str] {
 fn shown(field: &str, handed: &Handed) -> String {
     match field {
         "error" => list(field, &[handed.error]),
+        "quotient" => list(field, &[handed.quotient]),
+        "remainder" => list(field, &[handed.remainder]),
         "change" => list(field, &[handed.change]),
         "changes" => list(field, &[handed.changes]),
         "trials" => list(field, &[handed.trials]),
