@@ -8,7 +8,7 @@ use crate::handed::{
     STATS_SWAPS,
 };
 use crate::picture::{pbm, pgm, row_bytes, PBM, PGM};
-use crate::plain::{lock, Plate, MAX_COUNT, MAX_ERROR};
+use crate::plain::{lock, Plate, Second, MAX_COUNT, MAX_ERROR};
 use crate::sheet;
 use std::cmp::Reverse;
 use std::time::{SystemTime, UNIX_EPOCH};
@@ -196,6 +196,7 @@ pub fn handed(random: &mut Random, (width, height): (usize, usize)) -> Handed {
     state(random, &mut handed);
     handed.autocorrelation = (0..(4 * radius + 1).pow(2)).map(|_| random.any() as i32).collect();
     (handed.error, handed.change) = (random.any() as i64, random.any() as i64);
+    (handed.quotient, handed.remainder) = (random.any() as i64, random.any() as usize);
     (handed.changes, handed.trials, handed.scans) = (random.any(), random.any(), random.any());
     (handed.length, handed.offset) = (random.any() as usize, random.any() as usize);
     handed
@@ -233,6 +234,37 @@ fn tie(handed: &mut Handed) {
 
 fn dot_total(handed: &Handed) -> i64 {
     handed.dots.iter().map(|&dot| i64::from(dot)).sum()
+}
+
+/// Moves the gray of one cell after the other until the dots are darker than it by this, or by as near to this as they
+/// can be. So cells get locked, and dots may contradict them.
+pub fn shade(handed: &mut Handed, darker: i64) {
+    let mut rise = Second::default().darker(handed) - darker;
+    for gray in &mut handed.gray {
+        let moved = (i64::from(*gray) + rise).clamp(0, 255);
+        rise -= moved - i64::from(*gray);
+        *gray = moved as u8;
+    }
+}
+
+/// Dots and gray for a tone balance: as they are, darker or lighter by less than the number of cells, by 1 or 0, by a
+/// multiple of the number of cells, and next to one.
+fn balance(random: &mut Random, handed: &mut Handed) {
+    let cells = handed.cells() as i64;
+    let most = random.pick(&[3, 255]);
+    let multiple = (random.below(2 * most + 1) as i64 - most as i64) * cells;
+    let below = random.below(handed.cells()) as i64;
+    if random.one_in(2) {
+        handed.dots = dots(random, handed.cells());
+    }
+    match random.below(6) {
+        0 => {}
+        1 => shade(handed, below),
+        2 => shade(handed, -below),
+        3 => shade(handed, random.pick(&[-1, 0, 1])),
+        4 => shade(handed, multiple),
+        _ => shade(handed, multiple + random.pick(&[-1, 1])),
+    }
 }
 
 /// Valid stats for the dots of this plate: some changes on the way to it, and the fall of E that they need.
@@ -318,6 +350,9 @@ pub fn damaged(random: &mut Random, call: Call) -> Handed {
         if handed.start < 2 {
             handed.dots = random.bytes(handed.dots.len());
         }
+    }
+    if call == Call::ToneBalance {
+        balance(random, &mut handed);
     }
     if call.is_later() && random.one_in(6) {
         misstate(random, &mut handed);
@@ -408,7 +443,7 @@ fn damage(random: &mut Random, call: Call, number: u32, handed: &mut Handed) {
     }
 }
 
-/// A width or height that is out of range; with 257 also slices that fit it.
+/// A width or height that is out of range; with 257, and half the time with 0, also slices that fit it.
 fn outsize(random: &mut Random, handed: &mut Handed) {
     let mut other = |size: usize| match random.below(4) {
         0 => huge(random, size),
@@ -419,6 +454,9 @@ fn outsize(random: &mut Random, handed: &mut Handed) {
         handed.height = other(handed.height);
     } else {
         handed.width = other(handed.width);
+    }
+    if handed.width.min(handed.height) == 0 && random.one_in(2) {
+        (handed.gray, handed.dots) = (Vec::new(), Vec::new());
     }
     if handed.width.max(handed.height) != 257 {
         return;
@@ -433,15 +471,20 @@ fn outsize(random: &mut Random, handed: &mut Handed) {
     }
 }
 
-/// Another length for one of the slices that this call is lent.
+/// Another length for one of the slices that this call is lent; with a tone balance now and then for both, the same.
 fn change_length(random: &mut Random, call: Call, handed: &mut Handed) {
     fn resize<T: Copy + From<u8>>(random: &mut Random, buffer: &mut Vec<T>) {
         let length = buffer.len();
         let others = [0, length - 1, length + 1, 2 * length, length + 256];
         buffer.resize(random.pick(&others), T::from(1));
     }
+    if call == Call::ToneBalance && random.one_in(3) {
+        resize(random, &mut handed.gray);
+        return handed.dots.resize(handed.gray.len(), 1);
+    }
     let slices: &[_] = match call {
         Call::Autocorrelation => &[0, 5],
+        Call::ToneBalance => &[1, 2],
         Call::SquaredError | Call::WriteSheet => &[0, 1, 2],
         Call::FilteredError => &[0, 1, 2, 3],
         Call::WritePbm => &[2],

@@ -66,7 +66,8 @@ impl Run {
         let number = self.second.call(call, &mut wanted);
         let (answer, guards) = library::call(call, handed);
         *self.answers.entry((call as usize, answer)).or_default() += 1;
-        for way in outcome(call, answer, &before, handed).into_iter().chain(tried(call, answer, &before, handed)) {
+        let ways = [tried(call, answer, &before, handed), toned(call, answer.max(number), &before)].concat();
+        for way in outcome(call, answer, &before, handed).into_iter().chain(ways) {
             *self.outcomes.entry((call as usize, way)).or_default() += 1;
         }
         if answer == number && *handed == wanted && guards {
@@ -116,9 +117,11 @@ impl Run {
         let size = generate::size(&mut self.random);
         let mut handed = generate::handed(&mut self.random, size);
         self.dots_of_rows(&handed);
+        self.balance_of_list(&handed);
         if self.compare(Call::Start, &mut handed) > 0 {
             return;
         }
+        self.balance_of_list(&handed);
         let first = handed.stats.clone();
         let mut settled = false;
         let calls = self.random.within(1, 16);
@@ -137,6 +140,7 @@ impl Run {
             settled = call == Converge;
         }
         self.dots_of_rows(&handed);
+        self.balance_of_list(&handed);
         self.file(Handed { scans: 0, ..handed }, settled);
     }
 
@@ -155,6 +159,17 @@ impl Run {
         let sum: i64 = packed.counts.iter().map(|&count| i64::from(count)).sum();
         let total = packed.stats[STATS_START_DOTS] + packed.stats[STATS_ON] - packed.stats[STATS_OFF];
         self.expect("the sum of the counts is the dot total of the ledger", sum == total);
+    }
+
+    /// The tone balance of the plate as a list of calls left it; its dots are the dot total of the ledger.
+    fn balance_of_list(&mut self, handed: &Handed) {
+        let mut plate = handed.clone();
+        let answer = self.compare(Call::ToneBalance, &mut plate);
+        let total = plate.stats[STATS_START_DOTS] + plate.stats[STATS_ON] - plate.stats[STATS_OFF];
+        let gray: i64 = plate.gray.iter().map(|&gray| i64::from(gray)).sum();
+        let parts = plate.quotient * plate.cells() as i64 + plate.remainder as i64;
+        let holds = answer == 0 && parts == 255 * total - gray && plate.remainder < plate.cells();
+        self.expect("the tone balance is that of the ledger's dot total", holds);
     }
 
     /// Demand 3 after one call of a list, by fresh sums.
@@ -375,6 +390,34 @@ impl Run {
         }
     }
 
+    /// The tone balance of small plates, which are darker than their gray by every number up to two units a cell, and
+    /// lighter; then sizes, lengths and dots, those that it refuses with all others.
+    fn sweep_balance(&mut self) {
+        for (width, height) in (1..=12).flat_map(|n| [(n, 1), (1, n), (n, 2), (3, n)]) {
+            let cells = (width * height) as i64;
+            let mut handed = generate::handed(&mut self.random, (width, height));
+            for darker in -2 * cells - 1..=2 * cells + 1 {
+                // half of the cells at least have a dot, or are blank: so there is enough gray
+                handed.dots = (0..cells).map(|at| u8::from((at % 2 == 0) == (darker > 0))).collect();
+                generate::shade(&mut handed, darker);
+                let answer = self.compare(Call::ToneBalance, &mut handed);
+                let parts = handed.quotient * cells + handed.remainder as i64;
+                let holds = answer == 0 && parts == darker && (0..cells).contains(&(handed.remainder as i64));
+                self.expect("a tone balance comes to what the plate was shaded for", holds);
+            }
+        }
+        let (sizes, lengths) = ([0, 1, 2, 256, 257], [0, 1, 2, 3, 4, 5, 256, 257, 512]);
+        for (width, height) in sizes.into_iter().flat_map(|width| sizes.map(|height| (width, height))) {
+            let handed = generate::handed(&mut self.random, (2, 2));
+            for (gray, dots) in lengths.into_iter().flat_map(|gray| lengths.map(|dots| (gray, dots))) {
+                for dot in 0..=2 {
+                    let (gray, dots) = (vec![255; gray], vec![dot; dots]);
+                    self.compare(Call::ToneBalance, &mut Handed { width, height, gray, dots, ..handed.clone() });
+                }
+            }
+        }
+    }
+
     /// Rounds in several threads: there is no state between calls.
     fn at_the_same_time(&mut self) {
         let (seed, fault) = (self.seed, self.second.fault);
@@ -398,7 +441,7 @@ impl Run {
         use Call::*;
         for size in [(256, 256), (256, 255), (200, 256)] {
             let mut handed = generate::handed(&mut self.random, size);
-            for call in [FilteredError, SquaredError, TryToggle, TrySwap, Start, ToggleScan] {
+            for call in [FilteredError, SquaredError, ToneBalance, TryToggle, TrySwap, Start, ToggleScan] {
                 self.compare(call, &mut handed);
             }
         }
@@ -415,8 +458,8 @@ impl Run {
         }
     }
 
-    /// The largest |T| that there is: all paper under dots, all black under blanks, and the largest psf sum. These are
-    /// locked, so plates are started next to them.
+    /// The largest |T| that there is: all paper under dots, all black under blanks, and the largest psf sum; and the tone
+    /// balance of the largest |D|. These are locked, so plates are started next to them.
     fn extreme(&mut self) {
         for dot in 0..2 {
             let mut handed = generate::handed(&mut self.random, (256, 256));
@@ -425,7 +468,11 @@ impl Run {
             handed.gray.fill(255 * (1 - dot));
             self.compare(Call::FilteredError, &mut handed);
             self.expect("the largest |T|", handed.table.iter().any(|t| t.abs() == 267_386_880));
-            self.compare(Call::SquaredError, &mut handed);
+            for call in [Call::SquaredError, Call::ToneBalance] {
+                self.compare(call, &mut handed);
+            }
+            let most = if dot == 0 { -255 } else { 255 };
+            self.expect("the largest |D|", (handed.quotient, handed.remainder) == (most, 0));
             handed.gray.fill(if dot == 0 { 254 } else { 1 });
             for call in [Call::Start, Call::ToggleScan] {
                 self.compare(call, &mut handed);
@@ -473,7 +520,8 @@ impl Run {
         self.expect("the sheet of document 01", self.second.settle(SHEET) == PRINTED);
     }
 
-    /// The sums of the second implementation against each other: E in three ways, a change in three, rest in two.
+    /// The sums of the second implementation against each other: E in three ways, a change in three, rest in two. A tone
+    /// balance has the only parts that there are.
     fn sums(&mut self) {
         for _ in 0..300 {
             let size = (self.random.within(1, 9), self.random.within(1, 9));
@@ -496,6 +544,11 @@ impl Run {
         }
         for _ in 0..30 {
             self.rest();
+        }
+        for (d, n) in (-60..=60).flat_map(|d| (1..=12).map(move |n| (d, n))) {
+            let pairs = (-60..=60).flat_map(|q| (0..n).map(move |remainder| (q, remainder)));
+            let whole: Vec<(i64, i64)> = pairs.filter(|(q, remainder)| q * n + remainder == d).collect();
+            self.expect("the only parts of D", whole == [plain::parted(d, n)]);
         }
     }
 
@@ -539,6 +592,7 @@ impl Run {
 fn outcomes_of(call: Call) -> &'static [&'static str] {
     match call {
         Call::TryToggle | Call::TrySwap => &["accepted", "declined", "tied"],
+        Call::ToneBalance => &TONED,
         Call::CheckFiled => &CHECKED,
         Call::Converge => &SCANNED[..3],
         Call::ToggleScan => &SCANNED[..8],
@@ -562,6 +616,18 @@ const SCANNED: [&str; 10] = [
     "of several changes",
     "ahead of partners left at a cell",
     "past a locked partner",
+];
+
+/// The ways in which a tone balance comes out.
+const TONED: [&str; 8] = [
+    "lighter",
+    "as dark",
+    "darker",
+    "lighter by less than N",
+    "darker by less than N",
+    "lighter by some N",
+    "darker by some N",
+    "beside locks that the dots contradict",
 ];
 
 /// The ways in which a check comes out: three for each number in the place of rest. Where the figure differs the ledger
@@ -609,6 +675,18 @@ fn tried(call: Call, answer: u32, before: &Handed, after: &Handed) -> Vec<&'stat
     let locks = generate::has_locks(before);
     let ways = [trials, !trials, trials && locks, after.changes > 1, scan.left > 0, scan.locked_partners > 0];
     SCANNED[4..].iter().zip(ways).filter(|&(_, came)| came).map(|(&way, _)| way).collect()
+}
+
+/// The ways in which a tone balance comes out that is not refused.
+fn toned(call: Call, answer: u32, before: &Handed) -> Vec<&'static str> {
+    if answer > 0 || call != Call::ToneBalance {
+        return Vec::new();
+    }
+    let (d, cells) = (Second::default().darker(before), before.cells() as i64);
+    let (near, whole) = (d.abs() < cells, d % cells == 0);
+    let ways = [d < 0, d == 0, d > 0, d < 0 && near, d > 0 && near, d < 0 && whole, d > 0 && whole];
+    let contradicts = Second::default().contradicts(before);
+    TONED.iter().zip(ways.into_iter().chain([contradicts])).filter(|&(_, came)| came).map(|(&way, _)| way).collect()
 }
 
 /// What holds of the trials of a scan by the plate alone: those of a toggle scan are its cells that are not locked,
@@ -663,6 +741,7 @@ fn differential(seed: u64, rounds: u64) -> (u64, u64) {
     run.scans_by_attempts();
     (0..rounds).for_each(|_| run.round());
     run.sweep();
+    run.sweep_balance();
     run.sweep_filed();
     run.sweep_files();
     run.large();
