@@ -167,8 +167,7 @@ impl Run {
         let answer = self.compare(Call::ToneBalance, &mut plate);
         let total = plate.stats[STATS_START_DOTS] + plate.stats[STATS_ON] - plate.stats[STATS_OFF];
         let gray: i64 = plate.gray.iter().map(|&gray| i64::from(gray)).sum();
-        let parts = plate.quotient * plate.cells() as i64 + plate.remainder as i64;
-        let holds = answer == 0 && parts == 255 * total - gray && plate.remainder < plate.cells();
+        let holds = answer == 0 && has_parts(&plate, 255 * total - gray);
         self.expect("the tone balance is that of the ledger's dot total", holds);
     }
 
@@ -401,8 +400,7 @@ impl Run {
                 handed.dots = (0..cells).map(|at| u8::from((at % 2 == 0) == (darker > 0))).collect();
                 generate::shade(&mut handed, darker);
                 let answer = self.compare(Call::ToneBalance, &mut handed);
-                let parts = handed.quotient * cells + handed.remainder as i64;
-                let holds = answer == 0 && parts == darker && (0..cells).contains(&(handed.remainder as i64));
+                let holds = answer == 0 && has_parts(&handed, darker);
                 self.expect("a tone balance comes to what the plate was shaded for", holds);
             }
         }
@@ -687,6 +685,13 @@ fn toned(call: Call, answer: u32, before: &Handed) -> Vec<&'static str> {
     let ways = [d < 0, d == 0, d > 0, d < 0 && near, d > 0 && near, d < 0 && whole, d > 0 && whole];
     let contradicts = Second::default().contradicts(before);
     TONED.iter().zip(ways.into_iter().chain([contradicts])).filter(|&(_, came)| came).map(|(&way, _)| way).collect()
+}
+
+/// Whether the quotient and the remainder are the parts of D.
+fn has_parts(handed: &Handed, d: i64) -> bool {
+    let (quotient, remainder) = (i128::from(handed.quotient), handed.remainder as i128);
+    let cells = handed.cells() as i128;
+    quotient * cells + remainder == i128::from(d) && (0..cells).contains(&remainder)
 }
 
 /// What holds of the trials of a scan by the plate alone: those of a toggle scan are its cells that are not locked,
