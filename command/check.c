@@ -28,10 +28,5 @@ static enum status check_file(const char *name) {
 }
 
 enum status check(int count, char **words) {
-    enum status worst = optind < count ? GOOD : check_file("-");
-    for (int i = optind; i < count; i++) {
-        enum status status = check_file(words[i]);
-        if (status > worst) worst = status;
-    }
-    return worst;
+    return each_file(count, words, check_file);
 }

@@ -1,4 +1,4 @@
-/* Messages, and files that are read and written whole, with every call checked up to the close. */
+/* Messages, files that are read and written whole, with every call checked up to the close, and sheets with dots. */
 #include "plate.h"
 
 #include <errno.h>
@@ -58,6 +58,18 @@ enum status read_file(const char *name, struct input *input) {
 /* whether this text stands there */
 int begins(const struct input *input, size_t offset, const char *text) {
     return strncmp((const char *)input->bytes + offset, text, strlen(text)) == 0;
+}
+
+/* the figures after a filed sheet are passed over */
+enum status read_sheet(const struct input *input) {
+    size_t offset = 0;
+    uint32_t number = pm_plate_read(&plate, input->bytes, input->length, &offset);
+    if (number == PM_REFUSED_BYTE && begins(input, offset, FIGURE_NAMES)) {
+        number = pm_plate_read(&plate, input->bytes, offset, &offset);
+    }
+    if (number != 0) return refused(input, number, offset);
+    if (plate.measures[PM_MEASURE_START] == 2) return GOOD;
+    return tell(DIFFERS, "%s: a sheet without dots: settle it first", input->name);
 }
 
 static enum status put(FILE *file, const char *name, const void *from, size_t length) {

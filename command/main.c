@@ -1,4 +1,4 @@
-/* The command `plate`: hands its words on to settle, check or show. */
+/* The command `plate`: hands its words on to settle, check, balance or show. */
 #include "plate.h"
 
 #include <fcntl.h>
@@ -15,6 +15,8 @@ static const char help[] =
     "    --figures FILE  where the figures go, instead of standard error\n"
     "plate check [FILED...]\n"
     "    says of filed sheets whether their figures belong to their dots, and whether these are at rest\n"
+    "plate balance [SHEET...]\n"
+    "    says of sheets with dots, filed or not, whether the plate is darker than its ground\n"
     "plate show [FILE]\n"
     "    draws the dots of a PBM, a sheet or a filed sheet\n"
     "plate --help, plate COMMAND --help, plate --version\n"
@@ -48,12 +50,28 @@ enum status only_operand(int count, char **words, const char **name) {
     return GOOD;
 }
 
+enum status each_file(int count, char **words, enum status (*work)(const char *name)) {
+    enum status worst = optind < count ? GOOD : work("-");
+    for (int i = optind; i < count; i++) {
+        enum status status = work(words[i]);
+        if (status > worst) worst = status;
+    }
+    return worst;
+}
+
 /* whether --help stands among the options */
 static int asks_help(int count, char **words) {
     for (int i = 1; i < count && strcmp(words[i], "--") != 0; i++) {
         if (strcmp(words[i], "--help") == 0) return 1;
     }
     return 0;
+}
+
+/* the command of this name that takes files and no options, NULL where there is none */
+static enum status (*without_options(const char *name))(int count, char **words) {
+    if (strcmp(name, "check") == 0) return check;
+    if (strcmp(name, "balance") == 0) return balance;
+    return strcmp(name, "show") == 0 ? show : NULL;
 }
 
 static enum status run(int count, char **words) {
@@ -65,10 +83,10 @@ static enum status run(int count, char **words) {
     if (strcmp(command, "--version") == 0) return print_version();
     words[1] = name; /* which getopt_long puts before its messages */
     if (strcmp(command, "settle") == 0) return settle(count - 1, words + 1);
-    int checks = strcmp(command, "check") == 0;
-    if (!checks && strcmp(command, "show") != 0) return tell(TROUBLE, USAGE("there is no command '%s'"), command);
+    enum status (*named)(int count, char **words) = without_options(command);
+    if (named == NULL) return tell(TROUBLE, USAGE("there is no command '%s'"), command);
     if (getopt_long(count - 1, words + 1, "", none, NULL) != -1) return tell(TROUBLE, TRY_HELP);
-    return (checks ? check : show)(count - 1, words + 1);
+    return named(count - 1, words + 1);
 }
 
 /* a closed standard stream is held by /dev/null, opened so that to read or write it fails as it should */

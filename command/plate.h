@@ -42,10 +42,12 @@ enum status trouble(const char *name); /* what errno says */
 enum status refused(const struct input *input, uint32_t number, size_t offset);
 enum status read_file(const char *name, struct input *input);
 int begins(const struct input *input, size_t offset, const char *text);
+enum status read_sheet(const struct input *input); /* a sheet with dots, which may be filed, into the plate */
 enum status write_file(const char *name, const void *bytes, size_t length); /* NULL is standard error */
 
-/* main.c: the name of the one file there may be after the options */
+/* main.c: the name of the one file there may be after the options; or each of the files, and the worst status */
 enum status only_operand(int count, char **words, const char **name);
+enum status each_file(int count, char **words, enum status (*work)(const char *name));
 
 /* psf.c: the ready psf of this name, or the numbers in the file of this name */
 enum status find_psf(const char *name, const struct psf **psf);
@@ -56,6 +58,7 @@ uint32_t settle_plate(uint64_t *scans);
 /* the commands, each in the file of its name */
 enum status settle(int count, char **words);
 enum status check(int count, char **words);
+enum status balance(int count, char **words);
 enum status show(int count, char **words);
 
 #endif

@@ -8,18 +8,6 @@
 /* enough for a half block, 3 bytes, for every two cells, or a byte for each, and the ends of lines */
 static char drawn[2 * PM_MAX_CELLS];
 
-/* a sheet, which may be filed: the figures after it are passed over */
-static enum status read_sheet(const struct input *input) {
-    size_t offset = 0;
-    uint32_t number = pm_plate_read(&plate, input->bytes, input->length, &offset);
-    if (number == PM_REFUSED_BYTE && begins(input, offset, FIGURE_NAMES)) {
-        number = pm_plate_read(&plate, input->bytes, offset, &offset);
-    }
-    if (number != 0) return refused(input, number, offset);
-    if (plate.measures[PM_MEASURE_START] == 2) return GOOD;
-    return tell(DIFFERS, "%s: a sheet without dots: settle it first", input->name);
-}
-
 static enum status read_dots(const struct input *input) {
     if (begins(input, 0, "P5")) return tell(DIFFERS, "%s: a PGM has gray and no dots: settle it first", input->name);
     if (!begins(input, 0, "P")) return read_sheet(input);
