@@ -29,7 +29,7 @@ from operator import index
 from pathlib import Path
 from typing import Any, Iterable, NamedTuple, Optional, Union
 
-VERSION = "3.0.0"
+VERSION = "3.1.0"
 MAX_CELLS, MAX_PSF, MAX_SHEET, MAX_PBM = 65536, 49, 393472, 8203
 
 
@@ -118,6 +118,19 @@ class Scan(NamedTuple):
 
     changes: int
     trials: int
+
+
+class ToneBalance(NamedTuple):
+    """By how much a plate is darker than its ground: divmod(D, cells), D being 255 * dots less the sum of gray. The plate
+    is lighter exactly when the quotient is below 0, and as dark as its ground exactly when both numbers are 0."""
+
+    quotient: int
+    remainder: int
+
+    @property
+    def darker(self) -> bool:
+        """Whether the plate is darker than its ground."""
+        return self.quotient >= 0 and self != (0, 0)
 
 
 class Verdict(NamedTuple):
@@ -360,6 +373,12 @@ class Plate:
         error = c_int64()
         _call("pm_squared_error", *self.measures[:3], self._psf, self._gray, self._dots, error)
         return error.value
+
+    def tone_balance(self) -> ToneBalance:
+        """By how much the plate is darker than its ground."""
+        quotient, remainder = c_int64(), c_size_t()
+        _call("pm_tone_balance", *self.measures[:2], self._gray, self._dots, quotient, remainder)
+        return ToneBalance(quotient.value, remainder.value)
 
     def to_pbm(self) -> bytes:
         """The dots as a raw PBM file."""

@@ -1,7 +1,7 @@
 /*
  * What include/platemaker.h says, tried on the library: versions, refusal texts, sizes that suffice, empty buffers at
- * NULL, measures of a wrong length, locked cells, the trials of scans, what struct pm_plate hands on, and the stack of
- * a thread with 1 MiB.
+ * NULL, measures of a wrong length, locked cells, the trials of scans, tone balances, what struct pm_plate hands on, and
+ * the stack of a thread with 1 MiB.
  *
  *     header          all of it
  *     header --small  without the largest plates, for a slow machine such as valgrind's
@@ -39,12 +39,12 @@ static const size_t element[BUFFERS] = {sizeof(size_t), 1, 1, 1, sizeof(int32_t)
 
 /* the results of all calls that are no buffers */
 static struct results {
-    int64_t change, error;
+    int64_t change, error, quotient;
     uint64_t changes, trials;
-    size_t offset, length, width, height;
+    size_t remainder, offset, length, width, height;
 } results;
 
-static const struct results untouched = {BEFORE, BEFORE, BEFORE, BEFORE, BEFORE, BEFORE, BEFORE, BEFORE};
+static const struct results untouched = {BEFORE, BEFORE, BEFORE, BEFORE, BEFORE, BEFORE, BEFORE, BEFORE, BEFORE, BEFORE};
 
 static size_t width, height;
 static int passed, failed;
@@ -65,8 +65,9 @@ static void check(int good, const char *format, ...) {
 
 /* The calls. */
 
-enum { AUTOCORRELATION, FILTERED_ERROR, SQUARED_ERROR, START, TRY_TOGGLE, TRY_SWAP, TOGGLE_SCAN, SWAP_SCAN, CONVERGE,
-       READ_SHEET, WRITE_SHEET, CHECK_FILED, READ_PBM, READ_PGM, WRITE_PBM, WRITE_PGM, COUNT_ROWS, CALLS };
+enum { AUTOCORRELATION, FILTERED_ERROR, SQUARED_ERROR, TONE_BALANCE, START, TRY_TOGGLE, TRY_SWAP, TOGGLE_SCAN,
+       SWAP_SCAN, CONVERGE, READ_SHEET, WRITE_SHEET, CHECK_FILED, READ_PBM, READ_PGM, WRITE_PBM, WRITE_PGM, COUNT_ROWS,
+       CALLS };
 
 #define TAKES(buffer) (1u << (buffer))
 #define TARGET (TAKES(PSF) | TAKES(GRAY) | TAKES(DOTS))
@@ -80,6 +81,7 @@ static const struct {
     [AUTOCORRELATION] = {"pm_autocorrelation", TAKES(PSF) | TAKES(OFFSET_TABLE)},
     [FILTERED_ERROR] = {"pm_filtered_error", TARGET | TAKES(TABLE)},
     [SQUARED_ERROR] = {"pm_squared_error", TARGET},
+    [TONE_BALANCE] = {"pm_tone_balance", TAKES(GRAY) | TAKES(DOTS)},
     [START] = {"pm_start", LATER},
     [TRY_TOGGLE] = {"pm_try_toggle", LATER},
     [TRY_SWAP] = {"pm_try_swap", LATER},
@@ -106,6 +108,7 @@ static uint32_t call(int which) {
     case AUTOCORRELATION: return pm_autocorrelation(RADIUS, LENT(PSF), LENT(OFFSET_TABLE));
     case FILTERED_ERROR: return pm_filtered_error(width, height, RADIUS, LENT_TARGET, LENT(TABLE));
     case SQUARED_ERROR: return pm_squared_error(width, height, RADIUS, LENT_TARGET, &r->error);
+    case TONE_BALANCE: return pm_tone_balance(width, height, LENT(GRAY), LENT(DOTS), &r->quotient, &r->remainder);
     case START: return pm_start(LENT_LATER);
     case TRY_TOGGLE: return pm_try_toggle(LENT_LATER, height - 1, width - 1, &r->change);
     case TRY_SWAP: return pm_try_swap(LENT_LATER, 0, 0, 0, 1, &r->change);
@@ -487,6 +490,7 @@ static int alike(const struct pm_plate *plate) {
 static uint32_t call_plate(int which, struct pm_plate *plate, struct results *r, uint8_t *out, size_t out_len) {
     switch (which) {
     case SQUARED_ERROR: return pm_plate_measure(plate, &r->error);
+    case TONE_BALANCE: return pm_plate_balance(plate, &r->quotient, &r->remainder);
     case START: return pm_plate_start(plate);
     case TOGGLE_SCAN: return pm_plate_toggle_scan(plate, &r->changes, &r->trials);
     case SWAP_SCAN: return pm_plate_swap_scan(plate, &r->changes, &r->trials);
@@ -496,7 +500,8 @@ static uint32_t call_plate(int which, struct pm_plate *plate, struct results *r,
     }
 }
 
-static const int plate_calls[] = {SQUARED_ERROR, START, TOGGLE_SCAN, SWAP_SCAN, CONVERGE, READ_SHEET, WRITE_SHEET};
+static const int plate_calls[] = {SQUARED_ERROR, TONE_BALANCE, START, TOGGLE_SCAN, SWAP_SCAN, CONVERGE, READ_SHEET,
+                                  WRITE_SHEET};
 enum { PLATE_CALLS = sizeof plate_calls / sizeof plate_calls[0] };
 
 /* does what the call does */
@@ -551,8 +556,9 @@ static void check_mistake(int which, const struct mistake *m) {
     check((pm_plate_entries(&plate) == 0) == (m->radius > 3), "the entries of a plate: %s", m->what);
     if (m->room == 0) plate.gray = plate.dots = NULL;
     if (m->room == 0) plate.table = NULL;
-    /* these two measures are not handed to it: what is left is the room */
-    if (which == SQUARED_ERROR && (wanted == PM_REFUSED_REACH || wanted == PM_REFUSED_START))
+    /* a measure that is not handed to it: what is left is the room */
+    if ((which == SQUARED_ERROR && (wanted == PM_REFUSED_REACH || wanted == PM_REFUSED_START)) ||
+        (which == TONE_BALANCE && wanted != PM_REFUSED_SIZE))
         wanted = m->room < 63 ? PM_REFUSED_LENGTH : 0;
     if (which == READ_SHEET) wanted = m->room < 63 ? PM_REFUSED_ROOM : 0;
     check(call_plate(which, &plate, &r, out, sizeof out) == wanted, "a plate for %s: %s", calls[which].name, m->what);
@@ -576,6 +582,7 @@ static void check_contents(void) {
     plate.dots[62] = 2;
     check(pm_plate_swap_scan(&plate, &r.changes, &r.trials) == PM_REFUSED_DOT, "a plate with a wrong dot");
     check(pm_plate_measure(&plate, &r.error) == PM_REFUSED_DOT, "a wrong dot measured");
+    check(pm_plate_balance(&plate, &r.quotient, &r.remainder) == PM_REFUSED_DOT, "a wrong dot balanced");
     memset(plate.psf, 255, sizeof plate.psf);
     check(pm_plate_start(&plate) == PM_REFUSED_PSF, "a plate with a wrong psf");
     check(memcmp(&r, &untouched, sizeof r) == 0, "results of wrong plates");
@@ -638,6 +645,34 @@ static void check_trials(void) {
     }
 }
 
+/* The tone balance of four cells: lighter, as dark and darker than their ground; dots may contradict locked cells. */
+
+static const struct {
+    const char *what;
+    uint8_t gray[4], dots[4];
+    int64_t quotient;
+    size_t remainder;
+} balances[] = {
+    {"one below", {255, 1, 0, 0}, {1, 0, 0, 0}, -1, 3},
+    {"four below", {255, 4, 0, 0}, {1, 0, 0, 0}, -1, 0},
+    {"five below", {255, 5, 0, 0}, {1, 0, 0, 0}, -2, 3},
+    {"as dark", {255, 0, 0, 0}, {1, 0, 0, 0}, 0, 0},
+    {"one above", {254, 0, 0, 0}, {1, 0, 0, 0}, 0, 1},
+    {"four above", {251, 0, 0, 0}, {1, 0, 0, 0}, 1, 0},
+    {"darkest", {0, 0, 0, 0}, {1, 1, 1, 1}, 255, 0},
+    {"lightest", {255, 255, 255, 255}, {0, 0, 0, 0}, -255, 0},
+};
+
+static void check_balances(void) {
+    for (size_t i = 0; i < sizeof balances / sizeof balances[0]; i++) {
+        struct results r = untouched;
+        const uint8_t *gray = balances[i].gray, *dots = balances[i].dots;
+        uint32_t status = pm_tone_balance(2, 2, gray, 4, dots, 4, &r.quotient, &r.remainder);
+        check(status == 0 && r.quotient == balances[i].quotient && r.remainder == balances[i].remainder,
+              "the tone balance, %s", balances[i].what);
+    }
+}
+
 /* The stack: every call on the largest plate, in a thread with 1 MiB above a page that cannot be touched. */
 
 static void *run(void *which) {
@@ -688,6 +723,7 @@ int main(int count, char **words) {
     check_locks();
     check_plates();
     check_trials();
+    check_balances();
     if (!small) {
         check_sizes();
         check_stack(stack);
