@@ -1,8 +1,8 @@
 /*
- * Measures the library's functions for raw PBM and PGM files, and its writer of sheets, on 256 by 256 cells against
- * plain C loops over the same bytes, which judge nothing but lengths. Both sides take turns in one run; a time is the
- * least of all turns. Prints a table, with --markdown one for a page; the last line is 'N passed, M failed'. A function
- * passes when both sides ended alike and the library took at most LIMIT times as long as the loop.
+ * Measures the library's functions for raw PBM and PGM files, its writer of sheets and its tone balance, on 256 by 256
+ * cells against plain C loops over the same bytes, which judge nothing but lengths. Both sides take turns in one run; a
+ * time is the least of all turns. Prints a table, with --markdown one for a page; the last line is 'N passed, M failed'.
+ * A function passes when both sides ended alike and the library took at most LIMIT times as long as the loop.
  */
 #define _POSIX_C_SOURCE 199309L
 #include <stdio.h>
@@ -18,7 +18,8 @@ enum { TURNS = 1000, LIMIT = 5 };
 /* all that a function may write; one for each side */
 struct results {
     uint32_t status;
-    size_t width, height, length;
+    size_t width, height, length, remainder;
+    int64_t quotient;
     uint8_t cells[CELLS], file[BYTES];
     uint32_t counts[SIDE];
 };
@@ -129,6 +130,15 @@ static void loop_count_rows(struct results *r) {
     }
 }
 
+static void loop_tone_balance(struct results *r) {
+    int64_t difference = 0, count = (int64_t)cells;
+    for (size_t i = 0; i < cells; i++) difference += 255 * dots[i] - gray[i];
+    int64_t rest = (difference % count + count) % count;
+    r->status = 0;
+    r->quotient = (difference - rest) / count;
+    r->remainder = (size_t)rest;
+}
+
 static void library_read_pbm(struct results *r) {
     r->status = pm_read_pbm(pbm, pbm_length, r->cells, CELLS, &r->width, &r->height);
 }
@@ -155,6 +165,10 @@ static void library_count_rows(struct results *r) {
     r->status = pm_count_rows(width, height, rows, packed, r->counts, height);
 }
 
+static void library_tone_balance(struct results *r) {
+    r->status = pm_tone_balance(width, height, gray, cells, dots, cells, &r->quotient, &r->remainder);
+}
+
 typedef void side(struct results *r);
 
 static const struct job {
@@ -165,6 +179,7 @@ static const struct job {
     {"pm_write_pbm", library_write_pbm, loop_write_pbm}, {"pm_write_pgm", library_write_pgm, loop_write_pgm},
     {"pm_count_rows", library_count_rows, loop_count_rows},
     {"pm_write_sheet", library_write_sheet, loop_write_sheet},
+    {"pm_tone_balance", library_tone_balance, loop_tone_balance},
 };
 
 /* noise, and the files of it by the loops */
