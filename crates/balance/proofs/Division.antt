@@ -15,42 +15,42 @@ use Rattle.model.proofs.Balance.{divides-is}
 pub quotient-few : (d n : ℕ) {k : ℕ} → d ≤ k → d / n ≤ k
 quotient-few d n h = omega (arith, NatL.div-le-self d n)
 
--- what the dots are worth less the gray, divided by n cells
-module _ (dark gray n : ℕ) (some : 0 < n) where
+-- what the dots are worth less the total of gray, divided by n cells
+module _ (worth total n : ℕ) (some : 0 < n) where
   abbrev is : ℤ → ℕ → Type 0
-  is q r = record { quotient = q; remainder = r } ≡ divided (pos dark -ℤ pos gray) n
+  is q r = record { quotient = q; remainder = r } ≡ divided (pos worth -ℤ pos total) n
 
-  pub from-0 : gray ≤ dark → is (pos ((dark - gray) / n)) ((dark - gray) % n)
+  pub from-0 : total ≤ worth → is (pos ((worth - total) / n)) ((worth - total) % n)
   from-0 h =
-      let q : ℕ = (dark - gray) / n in
-      let r : ℕ = (dark - gray) % n in
+      let q : ℕ = (worth - total) / n in
+      let r : ℕ = (worth - total) % n in
       divides-is (record {
         adds-up =
-            show≡ (pos dark ∷ pos gray ∷ pos q ∷ pos n ∷ pos r ∷ []) (search reify depth 40)
-            (omega (arith, h, NatL.div-add-mod' (dark - gray) n));
-        is-below = NatL.mod-lt (dark - gray) some;
+            show≡ (pos worth ∷ pos total ∷ pos q ∷ pos n ∷ pos r ∷ []) (search reify depth 40)
+            (omega (arith, h, NatL.div-add-mod' (worth - total) n));
+        is-below = NatL.mod-lt (worth - total) some;
       })
 
-  module _ (h : dark < gray) where
-    pub exact-below : (gray - dark) % n ≡ 0 → is (negℤ (pos ((gray - dark) / n))) 0
+  module _ (h : worth < total) where
+    pub exact-below : (total - worth) % n ≡ 0 → is (negℤ (pos ((total - worth) / n))) 0
     exact-below e =
-        let q : ℕ = (gray - dark) / n in
+        let q : ℕ = (total - worth) / n in
         divides-is (record {
           adds-up =
-              show≡ (pos dark ∷ pos gray ∷ pos q ∷ pos n ∷ []) (search reify depth 40)
-              (omega (arith, h, e, NatL.div-add-mod' (gray - dark) n));
+              show≡ (pos worth ∷ pos total ∷ pos q ∷ pos n ∷ []) (search reify depth 40)
+              (omega (arith, h, e, NatL.div-add-mod' (total - worth) n));
           is-below = some;
         })
 
-    pub left-below : ((gray - dark) % n ≡ 0 → ⊥)
-        → is (negℤ (pos ((gray - dark) / n + 1))) (n - (gray - dark) % n)
+    pub left-below : ((total - worth) % n ≡ 0 → ⊥)
+        → is (negℤ (pos ((total - worth) / n + 1))) (n - (total - worth) % n)
     left-below e =
-        let q : ℕ = (gray - dark) / n in
-        let r : ℕ = (gray - dark) % n in
-        let low : r < n = NatL.mod-lt (gray - dark) some in
+        let q : ℕ = (total - worth) / n in
+        let r : ℕ = (total - worth) % n in
+        let low : r < n = NatL.mod-lt (total - worth) some in
         divides-is (record {
           adds-up =
-              show≡ (pos dark ∷ pos gray ∷ pos q ∷ pos n ∷ pos (n - r) ∷ []) (search reify depth 40)
-              (omega (arith, h, low, NatL.add-mul q 1 n, NatL.div-add-mod' (gray - dark) n));
+              show≡ (pos worth ∷ pos total ∷ pos q ∷ pos n ∷ pos (n - r) ∷ []) (search reify depth 40)
+              (omega (arith, h, low, NatL.add-mul q 1 n, NatL.div-add-mod' (total - worth) n));
           is-below = omega (arith, e, low);
         })

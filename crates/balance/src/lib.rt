@@ -32,13 +32,13 @@ fn negative(n: usize) -> i64
     -(n as i64)
 }
 
-// what the dots are worth less the sum of gray, divided by the cells down to the next whole number
-fn divide(dark: usize, gray: usize, cells: usize) -> ToneBalance
-    requires { ⌜ (dark ≤ black * mostCells) × (gray ≤ black * mostCells) × (0 < cells) ⌝ }
-    ensures { λ r. ⌜ r ≡ divided (pos dark -ℤ pos gray) cells ⌝ }
+// what the dots are worth less the total of gray, divided by the cells down to the next whole number
+fn divide(worth: usize, total: usize, cells: usize) -> ToneBalance
+    requires { ⌜ (worth ≤ black * mostCells) × (total ≤ black * mostCells) × (0 < cells) ⌝ }
+    ensures { λ r. ⌜ r ≡ divided (pos worth -ℤ pos total) cells ⌝ }
 {
-    if gray <= dark {
-        let above = dark - gray;
+    if total <= worth {
+        let above = worth - total;
         let quotient = (above / cells) as i64;
         let remainder = above % cells;
         return ToneBalance {
@@ -46,7 +46,7 @@ fn divide(dark: usize, gray: usize, cells: usize) -> ToneBalance
             remainder: remainder,
         };
     }
-    let below = gray - dark;
+    let below = total - worth;
     let whole = below / cells;
     let rest = below % cells;
     if rest == 0 {
@@ -73,8 +73,8 @@ pub fn tone_balance(size: Size, gray: &[u8], dots: &[u8]) -> Balanced
         return Balanced::Refused(number);
     }
     let cells = size.height * size.width;
-    let dark = 255 * sum(dots);
-    let ground = sum(gray);
-    let balance = divide(dark, ground, cells);
+    let worth = 255 * sum(dots);
+    let total = sum(gray);
+    let balance = divide(worth, total, cells);
     Balanced::Done(balance)
 }

@@ -30,14 +30,15 @@ use Rattle.model.specs.Ledger.{dotTotal}
 use Rattle.model.specs.Refusal.{_when_, firstOf, outside, differs, above}
 use Rattle.model.specs.Calls.{result, Outcome, unless}
 use Rattle.model.specs.Netpbm.{InSize, cellsIn}
-use Rattle.model.specs.Balance.{toneDifference, Divides, divided, bareTarget, balanceRefusals, balanceCall}
-use Rattle.model.specs.BalancePromises.{BalanceAnswer, draws-1, draws-5, draws-7, answers}
+use Rattle.model.specs.PictureCalls.{pictureRefusals}
+use Rattle.model.specs.Balance.{toneDifference, Divides, divided, targetOfSize, balanceRefusals, balanceCall}
+use Rattle.model.specs.BalancePromises.{CoverCells, BalanceAnswer, draws-1, draws-5, draws-7, answers}
 use Rattle.model.specs.BalancePromises.{difference, BalanceSays}
-use Rattle.model.proofs.Basic.{neither}
 use Rattle.model.proofs.Psf.{total-sum}
 use Rattle.model.proofs.Error.{error≤}
-use Rattle.model.proofs.Refusal.{none, _nor_, same, within, alike-not, none-above, above-none, size-inside}
+use Rattle.model.proofs.Refusal.{none, drawn-none, _nor_, within, alike-not, none-above, above-none}
 use Rattle.model.proofs.Calls.{was-done}
+use Rattle.model.proofs.Pictures.{size-fits, picture-fits}
 
 -- ---- the division
 -- a number below 0, by its quotient and its remainder
@@ -182,18 +183,17 @@ module _ (t : Target) (dots : List ℕ) (gray-long : length (t .gray) ≡ cells 
 
 -- ---- the call
 -- a size and a length that draw neither 1 nor 5
-size-is : (z : Size) → outside (z .width) || outside (z .height) ≡ false → InSize z
-size-is z e = let (wide, high) = size-inside (z .width) (z .height) e in record { wide = wide; high = high }
-
-long-is : (z : Size) (n : ℕ) → differs (cellsIn z) (n ∷ []) ≡ false → n ≡ cellsIn z
-long-is z n e = same n (cellsIn z) (neither _ _ e .0)
+sized-so : (z : Size) (n : ℕ) → outside (z .width) || outside (z .height) ≡ false
+    → differs (cellsIn z) (n ∷ []) ≡ false → InSize z × (n ≡ cellsIn z)
+sized-so z n e f = picture-fits z n refl (drawn-none (pictureRefusals z n) (e, (f, tt)))
 
 -- what a call that is not refused was handed
 pub balance-fits : (z : Size) (gray : ℕ) (dots : List ℕ) {x : ℕ} → x ≡ firstOf (balanceRefusals z gray dots) → x ≡ 0
     → InSize z × (gray ≡ cellsIn z) × (length dots ≡ cellsIn z) × AtMost 1 dots
 balance-fits z gray dots e o =
     let (size, (g, (d, (bits, _)))) = none (balanceRefusals z gray dots) tt e o in
-    (size-is z size, long-is z gray g, long-is z (length dots) d, record { each = none-above 1 dots bits })
+    let (in-size, gray-long) = sized-so z gray size g in
+    (in-size, gray-long, sized-so z (length dots) size d .1, record { each = none-above 1 dots bits })
 
 -- a plate has cells
 pub some-cells : (z : Size) → InSize z → 0 < cellsIn z
@@ -224,12 +224,22 @@ module _ (z : Size) (gray dots : List ℕ) where
           → BalanceAnswer z gray dots
           (unless (firstOf (1 when a ∷ 5 when b ∷ 5 when c ∷ 7 when d ∷ [])) tt o .reply)
       go true b c d e f g h = draws-1 (λ i. true≢false (sym e ∙ sized i)) refl
-      go false true c d e f g h = draws-5 (size-is z e) (λ l. true≢false (sym f ∙ covers gray (l .0))) refl
-      go false false true d e f g h = draws-5 (size-is z e) (λ l. true≢false (sym g ∙ covers dots (l .1))) refl
-      go false false false true e f g h =
-          draws-7 (size-is z e) (long-is z (length gray) f, long-is z (length dots) g) (λ i. true≢false (sym h ∙ above-none 1 dots i)) refl
-      go false false false false e f g h =
-          answers (size-is z e) (long-is z (length gray) f, long-is z (length dots) g) (record { each = none-above 1 dots h }) _ refl
+      go false true c d e f g h =
+          draws-5 (size-fits z refl (rw e refl)) (λ l. true≢false (sym f ∙ covers gray (l .0))) refl
+      go false false true d e f g h =
+          draws-5 (size-fits z refl (rw e refl)) (λ l. true≢false (sym g ∙ covers dots (l .1))) refl
+      go false false false d e f g h = bits d h
+        where
+          in-size : InSize z
+          in-size = sized-so z (length gray) e f .0
+
+          covered : CoverCells z gray dots
+          covered = (sized-so z (length gray) e f .1, sized-so z (length dots) e g .1)
+
+          bits : (d : Bool) → above 1 dots ≡ d
+              → BalanceAnswer z gray dots (unless (firstOf (7 when d ∷ [])) tt o .reply)
+          bits true h = draws-7 in-size covered (λ i. true≢false (sym h ∙ above-none 1 dots i)) refl
+          bits false h = answers in-size covered (record { each = none-above 1 dots h }) _ refl
 
   -- and what its two numbers say
   pub balance-says : (b : ToneBalance) → balanceCall z gray dots .reply ≡ result b → BalanceSays z gray dots b
@@ -238,7 +248,7 @@ module _ (z : Size) (gray dots : List ℕ) where
       let n = firstOf (balanceRefusals z (length gray) dots) in
       let (taken, is, _) = was-done tt _ n refl e in
       let (size, g, d, bits) = balance-fits z (length gray) dots refl taken in
-      let t = bareTarget z gray in
+      let t = targetOfSize z gray in
       let divides : Divides (difference z gray dots) (cellsIn z) b =
       subst (Divides (difference z gray dots) (cellsIn z)) is (divided-divides _ (some-cells z size)) in
       record {

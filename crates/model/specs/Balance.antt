@@ -33,8 +33,8 @@ divided (negsuc d) n = record { quotient = negsuc (d / n); remainder = n - 1 - d
 
 -- ---- the call
 -- the target of a plate of that size, without a psf
-abbrev pub bareTarget : Size → (gray : List ℕ) → Target
-bareTarget z gray = targetOf (z .width) (z .height) 0 [] gray
+abbrev pub targetOfSize : Size → (gray : List ℕ) → Target
+targetOfSize z gray = targetOf (z .width) (z .height) 0 [] gray
 
 -- the number and the values of each case of the answer in the code
 abbrev pub balanced : Balanced → Reply ToneBalance
@@ -49,4 +49,4 @@ balanceRefusals z gray dots =
 unfoldable pub balanceCall : Size → (gray dots : List ℕ) → Outcome ToneBalance (Unit {0})
 balanceCall z gray dots =
     unless (firstOf (balanceRefusals z (length gray) dots)) tt
-    (record { reply = result (divided (toneDifference (bareTarget z gray) dots) (cellsIn z)); left = tt })
+    (record { reply = result (divided (toneDifference (targetOfSize z gray) dots) (cellsIn z)); left = tt })

@@ -13,7 +13,7 @@ use Rattle.model.specs.Basic.{Exactly, AtMost}
 use Rattle.model.specs.Error.{targetOf, error}
 use Rattle.model.specs.Calls.{Reply, result, refused}
 use Rattle.model.specs.Netpbm.{InSize, cellsIn}
-use Rattle.model.specs.Balance.{toneDifference, Divides, bareTarget, balanceCall}
+use Rattle.model.specs.Balance.{toneDifference, Divides, targetOfSize, balanceCall}
 
 module _ (z : Size) (gray dots : List ℕ) where
   -- gray and dots have a byte for each cell
@@ -33,7 +33,7 @@ module _ (z : Size) (gray dots : List ℕ) where
 
   -- D
   abbrev pub difference : ℤ
-  difference = toneDifference (bareTarget z gray) dots
+  difference = toneDifference (targetOfSize z gray) dots
 
   -- of a balance that is answered
   pub record BalanceSays (b : ToneBalance) : Type 0 where

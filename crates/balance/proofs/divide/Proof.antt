@@ -19,7 +19,7 @@ module _ (c : tie.Then1) where
   s = search
 
   abbrev above : ℕ
-  above = s .args .dark - s .args .gray
+  above = s .args .worth - s .args .total
 
   quotient : Holds w64 (above / s .args .cells) (pos (above / s .args .cells)) (black * mostCells)
   quotient =
@@ -31,7 +31,7 @@ module _ (c : tie.Else1) where
   s′ = search
 
   abbrev below : ℕ
-  below = s′ .args .gray - s′ .args .dark
+  below = s′ .args .total - s′ .args .worth
 
   few : below / s′ .args .cells ≤ black * mostCells
   few = quotient-few below (s′ .args .cells) (omega (arith, s′ .pre .1))
@@ -51,7 +51,7 @@ unfolding s
 returns c =
     let a = s c .args in
     ap (λ q. record { quotient = q; remainder = above c % a .cells }) (quotient c .value)
-    ∙ from-0 (a .dark) (a .gray) (a .cells) (s c .pre .2) (c .if1 .taken)
+    ∙ from-0 (a .worth) (a .total) (a .cells) (s c .pre .2) (c .if1 .taken)
 
 sub-below : tie.Need-sub-below
 sub-below c = search needs
@@ -74,7 +74,7 @@ returns-2 c =
     let a = s′ e .args in
     ap (λ q. record { quotient = q; remainder = 0 })
     (read-back w64 (c .negative .result) (c .negative .ok) ∙ c .negative .ensures)
-    ∙ exact-below (a .dark) (a .gray) (a .cells) (s′ e .pre .2) (e .if1 .left) (exact .if2 .taken)
+    ∙ exact-below (a .worth) (a .total) (a .cells) (s′ e .pre .2) (e .if1 .left) (exact .if2 .taken)
 
 add-negative : tie.Need-add-negative
 unfolding s′
@@ -98,7 +98,7 @@ returns-3 c =
     let a = s′ e .args in
     ap (λ q. record { quotient = q; remainder = a .cells - below e % a .cells })
     (read-back w64 (c .negative2 .result) (c .negative2 .ok) ∙ c .negative2 .ensures)
-    ∙ left-below (a .dark) (a .gray) (a .cells) (s′ e .pre .2) (e .if1 .left) (rest .if2 .left)
+    ∙ left-below (a .worth) (a .total) (a .cells) (s′ e .pre .2) (e .if1 .left) (rest .if2 .left)
 
 pub divide-spec : {M : Type 1} → statement M
 divide-spec =
