@@ -1,1 +1,2 @@
 // Theory alone: the definitions are in specs/, their laws in proofs/.
+#![tactic(auto)]

@@ -1,6 +1,7 @@
 // The one example of document 01 that is not starred: a psf with the sum 1,024 is taken, and one with 1,025 draws 6, here at
 // the autocorrelation and at a start. Then numbers as they are written (C-13), with the bytes before and after them. The
 // file stdout beside src/ is what must be printed.
+#![tactic(auto)]
 ghost use Rattle.std.specs.Prelude.{◌≤◌, length};
 
 use libc::STDOUT_FILENO;

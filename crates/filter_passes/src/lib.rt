@@ -1,5 +1,6 @@
 // The two passes that build a table over whole rows: the errors spread by the psf over the plate widened by r on each
 // side, and that gathered by the psf at each cell.
+#![tactic(auto)]
 ghost use Rattle.std.specs.Prelude.{◌≡◌, ℕ, ◌+◌, ◌*◌, ◌<◌, ◌≤◌, length};
 ghost use Rattle.model.specs.Error.{most_filtered};
 ghost use Rattle.model.specs.Refusal.{PsfFits};

@@ -1,5 +1,7 @@
 // Judging what a call is handed, one refusal or two at a time: each function answers the number of the first that is
 // drawn, 0 for none.
+#![tactic(auto)]
+
 ghost use Rattle.std.specs.Prelude.{◌&&◌, not, List, [], ◌∷◌, ◌≡◌, ℕ, ◌*◌, ◌≤◌, eqb, length};
 ghost use Rattle.model.specs.Error.{target_of};
 ghost use Rattle.model.specs.Lock.{locked_gray, locked_byte, contradiction};

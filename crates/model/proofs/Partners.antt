@@ -89,6 +89,7 @@ alike a b h =
 
 none_of : (f : Offset → Bool) (l : List Offset) {o : Offset} → some_of f l ≡ false → In o l → f o ≡ false
 unfolding some_of
+none_of f [] {o = o} h i = elim i [ ]
 none_of f (x ∷ l) h (here e) = ap f e ∙ (neither (f x) (some_of f l) h).0
 none_of f (x ∷ l) h (there i) = none_of f l (neither (f x) (some_of f l) h).1 i
 

@@ -40,6 +40,7 @@ module _ (t : Target) (dots : List ℕ) (m : ℕ) (P : Move → Type 0) where
   of_partner : (o : Offset) (l : List Offset) → In o l → suits t dots m o ≡ true → All P (those l)
       → P (swap dots m (partner t.width m o))
   unfolding swaps_by
+  of_partner o [] i e a = elim i [ ]
   of_partner o (x ∷ l) (here q) e a =
       subst (λ o. P (swap dots m (partner t.width m o))) (sym q)
       (subst (λ b. All P (pick b (swap dots m (partner t.width m x) ∷ those l) (those l)))

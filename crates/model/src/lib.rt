@@ -1,4 +1,5 @@
 // The public types of the plate maker. What they mean, and the promises, are in specs/.
+#![tactic(auto)]
 
 // The most cells of a plate: 256².
 pub const MOST_CELLS: usize = 65536;

@@ -1,6 +1,7 @@
 // How many swaps a scan weighs where it accepts none, counted from the dots: for each row the cells of one kind in
 // every column within reach, and from these, sliding along the row, those within reach of each cell. Those of a cell
 // up to a partner. And how many cells are unlocked.
+#![tactic(auto)]
 ghost use Rattle.std.specs.Prelude.{◌≡◌, ◌+◌, ◌*◌, ◌≤◌, ◌<◌, length};
 ghost use Rattle.model.specs.Basic.{AtMost};
 ghost use Rattle.model.specs.Error.{target_for, cell_at};

@@ -1,6 +1,7 @@
 // The lists of refusals of the later calls: 1 to 7 and 16, then those of the cells that the call names (8, 9), then 20 and
 // 21, then those of a change of their dots (23, 22). Each function answers the number of the first that is drawn, 0 for
 // none.
+#![tactic(auto)]
 ghost use Rattle.std.specs.Prelude.{◌≡◌};
 ghost use Rattle.model.specs.State.{later_refusal, toggle_refusal, swap_refusal};
 

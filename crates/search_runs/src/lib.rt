@@ -1,6 +1,7 @@
 // Quick tests of a run of cells by the table, mostly without a branch in their inner loops: whether a toggle or a swap
 // lowers the squared error in it, whatever is locked. Where none does, the trials in order can be left out. And how many
 // of its cells are locked.
+#![tactic(auto)]
 ghost use Rattle.std.specs.Prelude.{true, false, ◌≡◌, ◌+◌, ◌*◌, ◌<◌, ◌≤◌, nat_abs, length};
 ghost use Rattle.model.specs.Error.{most_filtered, most_cells};
 ghost use Rattle.invariants.specs.Plate.{cell_of};

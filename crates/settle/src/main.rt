@@ -1,5 +1,6 @@
 // The program `settle`: reads a sheet from standard input, lets it come to rest, and prints it with the two lines of
 // the ledger, or prints a refusal. What it prints for an input is `settle_program::run`; here is the reading and the writing.
+#![tactic(auto)]
 ghost use Rattle.std.specs.Prelude.{◌≤◌, length};
 
 use libc::{STDERR_FILENO, STDIN_FILENO, STDOUT_FILENO};

@@ -1,4 +1,5 @@
 // What the program `settle` does between its input and its output.
+#![tactic(auto)]
 ghost use Rattle.std.specs.Prelude.{◌≡◌, ◌≤◌, pos, length, take, replicate};
 ghost use Rattle.model.specs.Calls.{result, buffers};
 ghost use Rattle.model.specs.Sheet.{entries_of, cells_of, InRange};

@@ -1,5 +1,7 @@
 // Leaves that many crates use: slices cleared, copied, summed and put into one another, the lesser of two numbers, where
 // a cell stands in a slice of cells, and whether it is locked.
+#![tactic(auto)]
+
 ghost use Rattle.std.specs.Prelude.{◌≡◌, ◌≤◌, ◌<◌, ◌+◌, min, pos, length};
 ghost use Rattle.model.specs.Basic.{tabulate};
 ghost use Rattle.model.specs.Error.{cell_at, most_cells};
