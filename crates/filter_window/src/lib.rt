@@ -1,5 +1,6 @@
 // The window update of a table: each cell near one cell gains an amount times a kernel at its offset.
 #![tactic(auto)]
+
 ghost use Rattle.std.specs.Prelude.{◌≡◌, ℕ, ◌+◌, ◌*◌, ◌-◌, ◌<◌, ◌≤◌, min, length, get_or, pos, nat_abs};
 ghost use Rattle.invariants.specs.Window.{add_window, Small, Scaled};
 ghost use Rattle.model.specs.Error.{most_filtered};

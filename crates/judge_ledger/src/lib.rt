@@ -1,5 +1,6 @@
 // 21: judging the ledger that a later call is handed against the dots and their squared error.
 #![tactic(auto)]
+
 ghost use Rattle.std.specs.Prelude.{[], ◌∷◌, ◌≡◌, ◌≤◌, pos, ◌≤ℤ◌};
 ghost use Rattle.model.specs.Error.{most_cells, most_squared};
 ghost use Rattle.model.specs.Ledger.{wrong_stats};

@@ -1,5 +1,6 @@
 // A sample of a PFM: its 32 bits from four bytes, what they are read as, and its gray.
 #![tactic(auto)]
+
 ghost use Rattle.std.specs.Prelude.{true, false, ◌≡◌, ◌+◌, ◌*◌, ◌≤◌, T, length};
 ghost use Rattle.std.specs.Float.{binary32};
 ghost use Rattle.std.specs.Float.Ieee.{fits, nan_bits};

@@ -1,5 +1,6 @@
 // The raster of a PBM or PGM file: dots packed eight to a byte and unpacked, gray negated.
 #![tactic(auto)]
+
 ghost use Rattle.std.specs.Prelude.{◌≡◌, ◌+◌, ◌*◌, ◌-◌, ◌≤◌, min, ltb, length, drop, get_or};
 ghost use Rattle.std.proofs.lemmas.List.Edits.{sets};
 ghost use Rattle.model.specs.Basic.{pick, tabulate, bit, AtMost};

@@ -1,6 +1,7 @@
 // The answers of pictures laid out for the C interface: each function answers the status, 0 or the refusal number, and
 // stores the rest behind pointers.
 #![tactic(auto)]
+
 ghost use Rattle.model.specs.PictureCalls.{picture_of, written_of};
 ghost use Rattle.model.specs.PfmCalls.{pfm_of};
 ghost use Rattle.model.specs.Interface.{Lays, value_behind, picture_behind, pfm_behind};

@@ -1,6 +1,7 @@
 // The offsets of the partners in a swap scan: a table of the 168 within the greatest reach, farthest first, and those of
 // them that are within a given reach.
 #![tactic(auto)]
+
 ghost use Rattle.std.specs.Prelude.{◌≡◌, ◌+◌, ◌*◌, ◌≤◌, ◌<◌, length, take};
 ghost use Rattle.invariants.specs.Partners.{HoldsOffsets};
 ghost use Rattle.search_offsets.specs.Codes.{near, within, kept};

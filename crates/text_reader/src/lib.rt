@@ -1,6 +1,7 @@
 // A text read item by item: a word, a number or a line end with its byte offset. Numbers are read under a limit, which
 // stands for it and all above.
 #![tactic(auto)]
+
 ghost use Rattle.std.specs.Prelude.{true, ◌≡◌, ◌^◌, ◌≤◌, length, drop};
 ghost use Rattle.model.specs.Text.{is_letter, is_digit, grow_to, word_end, run_to, step, step_to, step_at};
 
