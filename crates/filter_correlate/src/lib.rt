@@ -1,5 +1,6 @@
 // The autocorrelation of a judged psf: the windows of the psf with each of its own entries.
 #![tactic(auto)]
+
 ghost use Rattle.std.specs.Prelude.{◌≡◌, map, ◌+◌, ◌*◌, ◌≤◌, pos, length};
 ghost use Rattle.model.specs.Psf.{autocorrelations};
 ghost use Rattle.model.specs.Refusal.{PsfFits};

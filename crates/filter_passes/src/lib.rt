@@ -1,6 +1,7 @@
 // The two passes that build a table over whole rows: the errors spread by the psf over the plate widened by r on each
 // side, and that gathered by the psf at each cell.
 #![tactic(auto)]
+
 ghost use Rattle.std.specs.Prelude.{◌≡◌, ℕ, ◌+◌, ◌*◌, ◌<◌, ◌≤◌, length};
 ghost use Rattle.model.specs.Error.{most_filtered};
 ghost use Rattle.model.specs.Refusal.{PsfFits};
@@ -13,7 +14,7 @@ use slices::clear_numbers;
 
 // How a plate lies in a slice: its rows are `span` apart; with `moves` 1 an entry of the psf moves it by that entry's row
 // and column, with 0 it stays.
-#[derive(Drop)]
+#[derive(Clone, Copy)]
 struct Frame {
     span: usize,
     moves: usize,

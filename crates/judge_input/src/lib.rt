@@ -1,6 +1,7 @@
 // The lists of refusals because of the input, 1 to 7 and 16, of each call that is not a reader: each function answers
 // the number of the first that is drawn, 0 for none.
 #![tactic(auto)]
+
 ghost use Rattle.std.specs.Prelude.{[], ◌∷◌, ◌≡◌};
 ghost use Rattle.model.specs.Refusal.{first_of, handed, input_refusals};
 ghost use Rattle.model.specs.Refusal.{autocorrelation_refusal, halftone_refusal, start_refusal, write_refusal};

@@ -18,7 +18,7 @@ use search_toggles::toggle_all;
 use search_trial::{swap, toggle};
 
 // What a call that names no cell begins with: the number of the refusal that is drawn, or 0 and the kernel.
-#[derive(Drop)]
+#[derive(Clone, Copy)]
 struct Entered {
     number: u32,
     c: [i32; 169],

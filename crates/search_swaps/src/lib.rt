@@ -149,7 +149,7 @@ fn swap_cell(
 }
 
 // Where a scan stands: at a cell, and up to where a run of cells was tested.
-#[derive(Drop)]
+#[derive(Clone, Copy)]
 struct Stand {
     at: Cell,
     tested: usize,
@@ -157,7 +157,7 @@ struct Stand {
 
 // What a scan finds from there on: the first cell that takes a partner, the place of the partner's offset, and up to where
 // a run of cells was tested. Where no cell takes one, it is the first below the plate.
-#[derive(Drop)]
+#[derive(Clone, Copy)]
 struct Taker {
     at: Cell,
     found: usize,
@@ -224,7 +224,7 @@ fn next_taker(
 }
 
 // What a scan begins with: its ledger, and whether its trials are counted.
-#[derive(Drop)]
+#[derive(Clone, Copy)]
 struct Task {
     stats: Stats,
     counted: bool,

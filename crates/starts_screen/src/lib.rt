@@ -1,6 +1,7 @@
 // What a start begins with: dots of one of the three kinds, by document 01's 16 by 16 Bayer array of thresholds where they
 // are ordered, and a fresh ledger.
 #![tactic(auto)]
+
 ghost use Rattle.std.specs.Prelude.{◌≡◌, ◌*◌, ◌<◌, ◌≤◌, length};
 ghost use Rattle.model.specs.Basic.{pick, tabulate};
 ghost use Rattle.model.specs.Error.{Target, squared_error, most_cells};

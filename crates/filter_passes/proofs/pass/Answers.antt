@@ -1,0 +1,117 @@
+-- `filter_passes::pass` meets its contract: after k entries of the psf the output is what they come to.
+use mathlib.Core.Path.{◌≡◌, sym, ◌∙◌, ap, ap₂}
+use Prim.Native.Nat.{◌-◌, ◌≤◌}
+use native.Mathlib.Omega.{arith}
+use lib.Dec.{lit<, lit≤}
+use lib.IntN.{pos}
+use lib.ListN.{length, get_or}
+use mir.Syntax.{w32}
+use Rattle.algebra.proofs.Machine.{Holds, of_cast, size_of}
+use Rattle.model.specs.Basic.{tabulate}
+use Rattle.model.proofs.Basic.{table_long}
+use Rattle.invariants.proofs.Window.{scaled_by, small_by}
+use Rattle.filter_passes.specs.Passes.{passed_at, passed}
+use Rattle.filter_passes.proofs.Passes.{pass_none, pass_next, pass_small}
+use Rattle.filter_passes.proofs.pass.Goals as goal
+use Rattle.filter_passes.proofs.pass.Goals.{After-corner-at, After-shared_slice_known-in-loop-k-1, Start}
+
+pub clear_numbers-requires : goal.clear_numbers-requires
+clear_numbers-requires c = tt
+
+pub loop-k-init : goal.loop-k-init
+loop-k-init c =
+    let s = c in
+    let a = s.args in
+    let is = c.clear_numbers.ensures in (
+      omega arith,
+      is ∙ ap (λ n. tabulate n (λ q. pos 0)) (sym (table_long _ _ is))
+          ∙ pass_none a.width a.height a.radius a.psf.now a.from a.to a.c.now _,
+    )
+
+pub corner-at-requires : goal.corner-at-requires
+corner-at-requires c =
+    let s = c in
+    let f = s.requires.width_nonzero.1 in
+    let to = s.requires.lies.1 in
+    (f.near, to.narrow, to.once, omega (arith, f.square))
+
+pub corner-there-requires : goal.corner-there-requires
+corner-there-requires c =
+    let s = c in
+    let f = s.requires.width_nonzero.1 in
+    let from = s.requires.lies.0 in
+    (f.near, from.narrow, from.once, omega (arith, f.square))
+
+pub bounds-psf-k : goal.bounds-psf-k
+bounds-psf-k c = omega arith
+
+pub overflow_cast-amount : goal.overflow_cast-amount
+overflow_cast-amount c =
+    let l = c in
+    record { sfits = omega (arith, c.shared_slice_known-in-loop-k-1.given l.loop-k.k) }
+
+-- in a turn: the entry of the psf as the call takes it
+module _ (c : After-shared_slice_known-in-loop-k-1) where
+  abbrev s : Start
+  s = search
+
+  abbrev l : After-shared_slice_known-in-loop-k-1
+  l = c
+
+  amount : Holds w32 (get_or s.args.psf.now l.loop-k.k 0) (pos (get_or s.args.psf.now l.loop-k.k 0)) 255
+  unfolding s l
+  amount = of_cast w32 _ (omega (arith, c.shared_slice_known-in-loop-k-1.given l.loop-k.k)) (lit< tt)
+
+pub add_rows-requires : goal.add_rows-requires
+unfolding s l
+add_rows-requires c =
+    let b = c in
+    let at = c in
+    let there = c in
+    let a = (s b).args in
+    let k = (l b).loop-k.k in
+    let inv = (l b).loop-k.invariant in
+    let (wide, fits, small) = (s b).requires.width_nonzero in
+    let (from, to) = (s b).requires.lies in
+    let long = table_long _ _ inv.1 in record {
+      n_le_stride = omega (arith, to.wide 0);
+      by_index = λ y h. omega (arith, to.ends k y (omega (arith, fits.square)) h, long);
+      by_index_2 = λ y h. omega (arith, from.ends k y (omega (arith, fits.square)) h);
+      small = (
+        small_by _ _ inv.1 (λ q.
+            pass_small a.width a.height a.radius a.psf.now a.from a.to a.c.now k q wide small
+            fits.sum_high inv.0),
+        scaled_by _ a.c.now (size_of (amount b)) small (lit≤ tt),
+      );
+    }
+
+pub overflow_add-k : goal.overflow_add-k
+overflow_add-k c = omega arith
+
+pub loop-k-smaller : goal.loop-k-smaller
+loop-k-smaller c = omega arith
+
+pub loop-k-preserved : goal.loop-k-preserved
+unfolding s l
+loop-k-preserved c =
+    let b = (goal.at.loop-k-preserved c).After-shared_slice_known-in-loop-k-1 in
+    let at = (goal.at.loop-k-preserved c).After-corner-at in
+    let there = c in
+    let a = (s b).args in (
+      omega arith,
+      pass_next a.width a.height a.radius a.psf.now a.from a.to a.c.now _ (l b).loop-k.k
+          (s b).requires.width_nonzero.0 (s b).requires.lies.1 (l b).loop-k.invariant.1 (amount b).value
+          (rw (at.corner-at.ensures, there.corner-there.ensures) at c.add_rows.ensures),
+    )
+
+pub returns : goal.returns
+unfolding passed
+returns c =
+    let s = c in
+    let cleared = c in
+    let a = s.args in
+    let e : c.loop-k.k ≡ length a.psf.now = omega arith in
+    c.loop-k.invariant.1
+    ∙ ap₂ (λ n k. tabulate n
+    (passed_at a.width a.height a.radius a.psf.now a.from a.to a.c.now k))
+    (table_long _ _ cleared.clear_numbers.ensures) e
