@@ -38,8 +38,8 @@ extern "C" {
 #endif
 
 /* The version of this header, as text and as a number: 1,000,000 * major + 1,000 * minor + patch. */
-#define PM_VERSION_TEXT "3.2.0"
-#define PM_VERSION 3002000
+#define PM_VERSION_TEXT "3.1.0"
+#define PM_VERSION 3001000
 
 /* The version of the library that is linked: PM_VERSION where header and library belong together. */
 uint32_t pm_version(void);

@@ -29,7 +29,7 @@ from operator import index
 from pathlib import Path
 from typing import Any, Iterable, NamedTuple, Optional, Union
 
-VERSION = "3.2.0"
+VERSION = "3.1.0"
 MAX_CELLS, MAX_PSF, MAX_SHEET, MAX_PBM = 65536, 49, 393472, 8203
 
 

@@ -32,8 +32,8 @@ pub use refusal::*;
 
 /// The version of the header that this crate follows, in words and as a number: 1,000,000 * major + 1,000 * minor +
 /// patch.
-pub const VERSION_TEXT: &str = "3.2.0";
-pub const VERSION: u32 = 3_002_000;
+pub const VERSION_TEXT: &str = "3.1.0";
+pub const VERSION: u32 = 3_001_000;
 
 /// Sizes that suffice for every plate: width, and height; cells; the entries of a psf; the bytes of a sheet and of a
 /// filed sheet; those of a PBM and of a PGM as they are written, and those of a PFM.

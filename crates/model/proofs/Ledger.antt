@@ -4,7 +4,7 @@
 --   raised_dots     it moves the dots that the ledger tells by what it adds to the plate
 use mathlib.Core.List.{List, [], ◌∷◌}
 use mathlib.Core.Path.{◌≡◌, refl}
-use Prim.Native.Nat.{suc, ◌+◌}
+use Prim.Native.Nat.{suc}
 use native.Mathlib.Omega.{arith}
 use lib.IntN.{ℤ, pos, ◌+ℤ◌}
 use Rattle.algebra.proofs.Solver.{ring!, reify}

@@ -4,7 +4,6 @@ use Rattle.std.specs.Prelude.{List, [], ◌∷◌, ◌≡◌, ℕ, ◌-◌, ◌/
 use Rattle.model.specs.declared.Size.{Size}
 use Rattle.model.specs.declared.ToneBalance.{ToneBalance}
 use Rattle.model.specs.declared.Balanced.{Balanced}
-use Rattle.model.specs.declared.Balanced.TheVariants as Balanced
 use Rattle.model.specs.Psf.{total}
 use Rattle.model.specs.Error.{Target, target_of}
 use Rattle.model.specs.Ledger.{dot_total}

@@ -1,21 +1,15 @@
 -- Each public call as a function from what it is handed to its answer and to what it leaves in what it was lent.
 use Rattle.std.specs.Prelude.{List, [], ◌∷◌, ◌≡◌, ℕ, zero, suc, ℤ, length}
 use Rattle.model.specs.declared.Filled.{Filled}
-use Rattle.model.specs.declared.Filled.TheVariants as Filled
 use Rattle.model.specs.declared.SquaredError.{SquaredError}
-use Rattle.model.specs.declared.SquaredError.TheVariants as SquaredError
 use Rattle.model.specs.declared.Measures.{Measures}
 use Rattle.model.specs.declared.Stats.{Stats}
 use Rattle.model.specs.declared.Started.{Started}
-use Rattle.model.specs.declared.Started.TheVariants as Started
 use Rattle.model.specs.declared.Attempt.{Attempt}
-use Rattle.model.specs.declared.Attempt.TheVariants as Attempt
 use Rattle.model.specs.declared.ScanResult.{ScanResult}
 use Rattle.model.specs.declared.Scanned.{Scanned}
-use Rattle.model.specs.declared.Scanned.TheVariants as Scanned
 use Rattle.model.specs.declared.ConvergeResult.{ConvergeResult}
 use Rattle.model.specs.declared.Converged.{Converged}
-use Rattle.model.specs.declared.Converged.TheVariants as Converged
 use Rattle.model.specs.Psf.{autocorrelations}
 use Rattle.model.specs.Error.{Target, target_of, target_for, cell_at, filtered_errors, squared_error}
 use Rattle.model.specs.Refusal.{autocorrelation_refusal, halftone_refusal, start_refusal}

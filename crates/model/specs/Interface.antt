@@ -318,4 +318,4 @@ balance_behind r (q, k) = (after (λ b. b.quotient) q r, after (λ b. b.remainde
 
 -- ---- the version of the library: 1,000,000 × major + 1,000 × minor + patch
 abbrev pub version : ℕ
-version = 1000000 * 3 + 1000 * 2 + 0
+version = 1000000 * 3 + 1000 * 1 + 0

@@ -6,7 +6,6 @@ use Rattle.std.proofs.lemmas.List.Edits.{sets}
 use Rattle.model.specs.declared.PfmHeader.{PfmHeader}
 use Rattle.model.specs.declared.PfmLines.{PfmLines}
 use Rattle.model.specs.declared.PfmReading.{PfmReading}
-use Rattle.model.specs.declared.PfmReading.TheVariants as PfmReading
 use Rattle.model.specs.Basic.{pick}
 use Rattle.model.specs.Text.{bytes, space, line_end}
 use Rattle.model.specs.Format.{Part, fixed, number, fixed_at, parse}

@@ -5,9 +5,7 @@ use Rattle.std.proofs.lemmas.List.Edits.{sets}
 use Rattle.model.specs.declared.Size.{Size}
 use Rattle.model.specs.declared.PictureHeader.{PictureHeader}
 use Rattle.model.specs.declared.Picture.{Picture}
-use Rattle.model.specs.declared.Picture.TheVariants as Picture
 use Rattle.model.specs.declared.Written.{Written}
-use Rattle.model.specs.declared.Written.TheVariants as Written
 use Rattle.model.specs.Refusal.{Refusal, ◌when◌, first_of, outside, differs, bad_size, bad_dot}
 use Rattle.model.specs.Calls.{Reply, result, refused, Outcome, unless}
 use Rattle.model.specs.Netpbm.{cells_in, packed_size, unpacked, negated, row_counts, pbm_file, pgm_file}

@@ -4,9 +4,7 @@ use Rattle.std.specs.Prelude.{List, ℕ, leb, eqb, length}
 use Rattle.std.proofs.lemmas.List.Edits.{sets}
 use Rattle.model.specs.declared.Measures.{Measures}
 use Rattle.model.specs.declared.Reading.{Reading}
-use Rattle.model.specs.declared.Reading.TheVariants as Reading
 use Rattle.model.specs.declared.Writing.{Writing}
-use Rattle.model.specs.declared.Writing.TheVariants as Writing
 use Rattle.model.specs.Basic.{pick}
 use Rattle.model.specs.Refusal.{write_refusal}
 use Rattle.model.specs.Calls.{Reply, result, refused, Outcome, unless}

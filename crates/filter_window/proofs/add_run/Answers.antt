@@ -1,7 +1,7 @@
 -- `filter_window::add_run` meets its contract. The loop's invariant: a run of k entries is added. The measure is what
 -- is left of n. Each sum is of two numbers of at most `most_filtered`, so it fits.
 use mathlib.Core.Path.{◌≡◌, refl}
-use Prim.Native.Nat.{◌+◌, ◌-◌, ◌≤◌}
+use Prim.Native.Nat.{◌+◌, ◌≤◌}
 use native.Mathlib.Nat.{le_refl}
 use native.Mathlib.Omega.{arith}
 use lib.Dec.{lit<}

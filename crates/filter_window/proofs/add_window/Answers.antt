@@ -1,7 +1,7 @@
 -- `filter_window::add_window` meets its contract. The loop's invariant: the window is added to the rows above y. The
 -- measure is what is left of the rows.
 use mathlib.Core.Path.{◌≡◌, sym, ◌∙◌}
-use Prim.Native.Nat.{◌+◌, ◌-◌, ◌≤◌, ◌<◌, min}
+use Prim.Native.Nat.{◌+◌, ◌≤◌, ◌<◌, min}
 use native.Mathlib.Nat.{le_of_eq}
 use native.Mathlib.Omega.{arith}
 use mir.Facts.{to_z-of_z}

@@ -1,6 +1,5 @@
 -- `judge_parts::any_above` meets its contract. The loop's invariant: the bytes from `i` on answer as all the bytes do.
 use mathlib.Core.Path.{refl, sym, ◌∙◌, ap}
-use Prim.Native.Nat.{◌-◌}
 use native.Mathlib.Omega.{arith}
 use lib.ListN.{drop_of_length-le}
 use Rattle.model.specs.Refusal.{above}

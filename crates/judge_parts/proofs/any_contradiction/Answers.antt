@@ -1,7 +1,7 @@
 -- `judge_parts::any_contradiction` meets its contract. The loop's invariant: whether one of the cells passed does.
 use mathlib.Core.Bool.{◌||◌}
 use mathlib.Core.Path.{◌≡◌, refl, ◌∙◌, ap, ap₂}
-use Prim.Native.Nat.{◌*◌, ◌-◌}
+use Prim.Native.Nat.{◌*◌}
 use native.Mathlib.Numerals.{add-one}
 use native.Mathlib.Omega.{arith}
 use Rattle.model.specs.Basic.{some_below}

@@ -1,6 +1,5 @@
 -- `picture_raster::pack_byte` meets its contract. The loop's invariant: the byte is the word of the cells passed.
 use mathlib.Core.Path.{◌≡◌, refl, ap, ◌∙◌}
-use Prim.Native.Nat.{◌-◌}
 use native.Mathlib.Numerals.{add-one}
 use native.Mathlib.Omega.{arith}
 use Rattle.model.specs.Basic.{tabulate}

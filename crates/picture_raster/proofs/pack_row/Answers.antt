@@ -1,6 +1,5 @@
 -- `picture_raster::pack_row` meets its contract. The loop's invariant: the bytes passed are put.
 use mathlib.Core.Path.{◌≡◌, refl, ◌∙◌}
-use Prim.Native.Nat.{◌-◌}
 use native.Mathlib.Omega.{arith}
 use borrow.Author.Rules.{rules}
 use Rattle.model.specs.Netpbm.{row_bytes}

@@ -1,6 +1,6 @@
 -- `picture_raster::pack_rows` meets its contract. The loop's invariant: the rows passed are put.
 use mathlib.Core.Path.{◌≡◌, refl, ◌∙◌, ap}
-use Prim.Native.Nat.{◌+◌, ◌*◌, ◌-◌}
+use Prim.Native.Nat.{◌+◌, ◌*◌}
 use native.Mathlib.Omega.{arith}
 use lib.Seq.{sets}
 use Rattle.algebra.proofs.Grid.{rows_apart}

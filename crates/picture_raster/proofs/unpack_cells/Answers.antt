@@ -1,6 +1,5 @@
 -- `picture_raster::unpack_cells` meets its contract. The loop's invariant: the cells passed are put.
 use mathlib.Core.Path.{◌≡◌, refl}
-use Prim.Native.Nat.{◌-◌}
 use native.Mathlib.Omega.{arith}
 use borrow.Author.Rules.{rules}
 use Rattle.model.proofs.Tables.{put_none, put_next, put_as}

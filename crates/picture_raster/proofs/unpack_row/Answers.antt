@@ -1,6 +1,6 @@
 -- `picture_raster::unpack_row` meets its contract. The loop's invariant: the cells of the bytes passed are put.
 use mathlib.Core.Path.{◌≡◌, refl, ◌∙◌, ap}
-use Prim.Native.Nat.{◌+◌, ◌*◌, ◌-◌, min}
+use Prim.Native.Nat.{◌+◌, ◌*◌, min}
 use native.Mathlib.Omega.{arith}
 use lib.ListN.{drop}
 use Rattle.model.specs.Netpbm.{row_bytes}

@@ -1,8 +1,7 @@
 -- `search_offsets::keep` meets its contract: of the codes passed, those within reach have been written in their order.
-use mathlib.Core.Bool.{true, false}
 use mathlib.Core.List.{List}
 use mathlib.Core.Path.{refl, sym, ◌∙◌}
-use Prim.Native.Nat.{ℕ, ◌-◌}
+use Prim.Native.Nat.{ℕ}
 use native.Mathlib.Omega.{arith}
 use lib.Seq.{take_all}
 use Rattle.search_offsets.specs.Codes.{kept}

@@ -1,5 +1,4 @@
 -- `slices::clear_numbers` meets its contract: the numbers passed are 0.
-use Prim.Native.Nat.{◌-◌}
 use native.Mathlib.Omega.{arith}
 use mathlib.Core.Path.{refl}
 use Rattle.model.proofs.Basic.{fill_none, fill_next, fill_all}

@@ -1,6 +1,5 @@
 -- `slices::copy_bytes` meets its contract: the bytes passed are copied.
 use mathlib.Core.Path.{refl, sym, ◌∙◌}
-use Prim.Native.Nat.{◌-◌}
 use native.Mathlib.Omega.{arith}
 use Rattle.model.proofs.Basic.{fill_none, fill_next, fill_all, tabulate-by}
 use Rattle.slices.proofs.copy_bytes.Goals as goal

@@ -1,6 +1,5 @@
 -- `slices::copy_numbers` meets its contract: the numbers passed are copied.
 use mathlib.Core.Path.{refl, sym, ◌∙◌}
-use Prim.Native.Nat.{◌-◌}
 use native.Mathlib.Omega.{arith}
 use lib.IntN.{pos}
 use mir.Syntax.{w32}

@@ -1,5 +1,4 @@
 -- `slices::put_bytes` meets its contract. The loop's invariant: the bytes from `i` on are left to put.
-use Prim.Native.Nat.{◌-◌}
 use native.Mathlib.Nat.{add-zero, add_assoc}
 use native.Mathlib.Omega.{arith}
 use lib.ListN.{drop_of_length-le}

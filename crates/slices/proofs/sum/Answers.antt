@@ -1,6 +1,5 @@
 -- `slices::sum` meets its contract. The loop's invariant: what is summed and the bytes from `i` on make the whole sum.
 use mathlib.Core.Path.{ap}
-use Prim.Native.Nat.{◌-◌}
 use native.Mathlib.Omega.{arith}
 use lib.ListN.{drop_of_length-le}
 use Rattle.model.specs.Psf.{total}

@@ -1,7 +1,6 @@
 -- `text_reader::digit_run` meets its contract. The loop's invariant: with the value so far, the digits from `i` on give
 -- the run that those from `at` on give.
 use mathlib.Core.Path.{refl, sym, ◌∙◌}
-use Prim.Native.Nat.{◌-◌}
 use borrow.Author.Rules.{rules}
 use Rattle.text_reader.proofs.Items.{run_more, run_stop, run_past}
 use Rattle.text_reader.proofs.digit_run.Goals as goal

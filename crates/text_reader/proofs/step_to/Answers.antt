@@ -65,8 +65,8 @@ returns-then-is_digit c =
     ∙ sym
     (whole
     ∙ elim c.else-b-eq48.branch [
-      else-b-eq48-via-then-b-eq48+else-at-end w ↦ number_zero _ _ _ w.if-b-eq48.true (le-ltb _ _ w.if-at-end.false)
-    | else-b-eq48-via-else-b-eq48 w ↦ number_first _ _ _ w.if-b-eq48.false
+      | else-b-eq48-via-then-b-eq48+else-at-end w ↦ number_zero _ _ _ w.if-b-eq48.true (le-ltb _ _ w.if-at-end.false)
+      | else-b-eq48-via-else-b-eq48 w ↦ number_first _ _ _ w.if-b-eq48.false
     ])
 
 pub returns-then-b-eq10 : goal.returns-then-b-eq10

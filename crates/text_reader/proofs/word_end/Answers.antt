@@ -1,6 +1,5 @@
 -- `text_reader::word_end` meets its contract. The loop's invariant: the letters from `i` on end where those from `at` on do.
 use mathlib.Core.Path.{refl, sym, ◌∙◌}
-use Prim.Native.Nat.{◌-◌}
 use borrow.Author.Rules.{rules}
 use Rattle.text_reader.proofs.Items.{word_more, word_stop, word_past}
 use Rattle.text_reader.proofs.word_end.Goals as goal
