@@ -4,38 +4,27 @@
 #![tactic(auto)]
 ghost use Rattle.std.specs.Prelude.{◌≤◌, length};
 
-use libc::STDOUT_FILENO;
 use model::{Filled, Measures, Started};
+use std::io;
+use std::io::{Print, Write};
 use text_decimal::put_number;
 
-fn print(text: &[u8]) {
-    io::write_all(STDOUT_FILENO, text);
-}
-
 // what is called, with the last entry of the psf
-fn print_call(name: &[u8], last: u8) {
-    print(name);
-    print(b", psf 255 255 255 255 4 0 0 0 ");
-    io::print_decimal(STDOUT_FILENO, last as u64);
+fn print_call<R: Print>(rt: &R, name: &str, last: u8) -> io::Result<()> {
+    print!(rt; "{name}, psf 255 255 255 255 4 0 0 0 {last}")
 }
 
-fn print_refused(number: u32) {
-    print(b": refused ");
-    io::print_decimal(STDOUT_FILENO, number as u64);
-    print(b"\n");
-}
-
-fn autocorrelation(last: u8) {
+fn autocorrelation<R: Print>(rt: &R, last: u8) -> io::Result<()> {
     let psf = [255u8, 255, 255, 255, 4, 0, 0, 0, last];
     let mut c = [0i32; 25];
-    print_call(b"autocorrelation", last);
+    print_call(rt, "autocorrelation", last)?;
     match filter::autocorrelation(1, &psf, &mut c) {
-        Filled::Done => print(b": taken\n"),
-        Filled::Refused(number) => print_refused(number),
+        Filled::Done => println!(rt; ": taken"),
+        Filled::Refused(number) => println!(rt; ": refused {number}"),
     }
 }
 
-fn start(last: u8) {
+fn start<R: Print>(rt: &R, last: u8) -> io::Result<()> {
     let measures = Measures {
         width: 1,
         height: 1,
@@ -44,10 +33,10 @@ fn start(last: u8) {
         start: 0,
     };
     let psf = [255u8, 255, 255, 255, 4, 0, 0, 0, last];
-    print_call(b"start", last);
+    print_call(rt, "start", last)?;
     match starts::start(measures, &psf, &[0], &mut [0], &mut [0]) {
-        Started::Fresh(_) => print(b": taken\n"),
-        Started::Refused(number) => print_refused(number),
+        Started::Fresh(_) => println!(rt; ": taken"),
+        Started::Refused(number) => println!(rt; ": refused {number}"),
     }
 }
 
@@ -59,32 +48,28 @@ fn put(out: &mut [u8], n: usize) -> usize
 }
 
 // a number among bytes `x`
-fn print_number(n: usize) {
+fn print_number<R: Print>(rt: &R, n: usize) -> io::Result<()> {
     let mut out = *b"xxxxxxxxxxxxxxxxxxxxxx";
     let next = put(&mut out, n);
-    print(b"number ");
-    io::print_decimal(STDOUT_FILENO, n as u64);
-    print(b": ");
-    print(&out);
-    print(b", then ");
-    io::print_decimal(STDOUT_FILENO, next as u64);
-    print(b"\n");
+    print!(rt; "number {n}: ")?;
+    io::writer(rt).write_all(&out)?;
+    println!(rt; ", then {next}")
 }
 
-fn main() {
-    autocorrelation(0);
-    autocorrelation(1);
-    start(0);
-    start(1);
-    print_number(0);
-    print_number(9);
-    print_number(10);
-    print_number(99);
-    print_number(100);
-    print_number(999);
-    print_number(1000);
-    print_number(1001);
-    print_number(999999);
-    print_number(1000000);
-    print_number(18446744073709551615);
+fn main(rt: HostRuntime) -> io::Result<()> {
+    autocorrelation(&rt, 0)?;
+    autocorrelation(&rt, 1)?;
+    start(&rt, 0)?;
+    start(&rt, 1)?;
+    print_number(&rt, 0)?;
+    print_number(&rt, 9)?;
+    print_number(&rt, 10)?;
+    print_number(&rt, 99)?;
+    print_number(&rt, 100)?;
+    print_number(&rt, 999)?;
+    print_number(&rt, 1000)?;
+    print_number(&rt, 1001)?;
+    print_number(&rt, 999999)?;
+    print_number(&rt, 1000000)?;
+    print_number(&rt, 18446744073709551615)
 }
