@@ -11,22 +11,20 @@ version := $(shell sed -n 's/^#define PM_VERSION_TEXT "\(.*\)"/\1/p' include/pla
 soname := libplatemaker.so.$(firstword $(subst ., ,$(version)))
 proved := target/staticlib/libplatemaker.a
 shared := target/lib/libplatemaker.so.$(version)
-sources := $(shell find crates -name '*.rt' -o -name '*.antt') crates.txt
-known := $(shell sed -n 's/^platemaker: //p' crates.txt)
+sources := $(shell find crates -name out -prune -o -name '*.rt' -print -o -name '*.antt' -print) crates.txt
 
 all: lib plate
 
 # the library, static and shared, and what pkg-config reads, in target/lib
 lib: target/lib/libplatemaker.a $(shared) target/lib/platemaker.pc
 
-# the crates that it knows first, several at a time, which `rt staticlib` does not do; a line for each as it is proved, and
-# all that the prover says in target/library.log
+# the crates that it knows are proved first; a line for each as it is checked, and all that the prover says in target/library.log
 $(proved): $(sources)
-	@mkdir -p target
+	@mkdir -p target/staticlib
 	@echo 'proving the library, which takes some minutes the first time'
-	@{ rt check $(known) && rt staticlib platemaker; } 2>&1 | tee target/library.log | \
-		sed -un '/unchanged/d; s/^rt: \(.* proved\)/\1/p'
-	@grep -q '^rt: $@ has the functions' target/library.log || { cat target/library.log; exit 1; }
+	@{ cd crates/platemaker && rt lib; } 2>&1 | tee target/library.log | sed -un 's/^rt: chose .* for \(.*\)/checking \1/p'
+	@grep -q '^logic=proved .* target=' target/library.log || { cat target/library.log; exit 1; }
+	@cp crates/platemaker/out/libplatemaker.a $@
 	@touch $@
 
 target/lib/libplatemaker.a: $(proved)
@@ -83,14 +81,18 @@ uninstall:
 
 # proves and builds the program `settle` and the command `plate`, with a line for each crate as it is proved; checks what
 # `settle` prints of the sheet of a small relief, and shows the plate that `plate` makes of it
-example:
-	@mkdir -p target
-	@rt check settle platemaker 2>&1 | tee target/example.log | sed -un 's/^rt: \(.* proved\)/\1/p'
-	@grep -q '^rt: ok, ' target/example.log || { cat target/example.log; exit 1; }
-	@$(MAKE) --no-print-directory plate >>target/example.log 2>&1 || { cat target/example.log; exit 1; }
+example: target/bin/settle target/bin/plate
 	@target/bin/settle <examples/knolls.sheet | target/bin/plate check
 	@target/bin/plate settle -o target/knolls.pbm examples/knolls.sheet
 	@target/bin/plate show target/knolls.pbm
+
+# proves and builds a program of crates/, which runs once as it is built, on no input
+target/bin/settle target/bin/examples: target/bin/%: $(sources)
+	@mkdir -p target/bin
+	@echo 'proving $*'
+	@{ cd crates/$* && rt run </dev/null; } >target/$*.log 2>&1 || { cat target/$*.log; exit 1; }
+	@cp crates/$*/out/$* $@
+	@touch $@
 
 # every test there is; the last line is 'N passed, M failed'
 test:
