@@ -6,18 +6,14 @@
 --   grid_more, grid_stop, grid_past                 rows as a loop takes them
 use mathlib.Core.Bool.{Bool, true, false, ◌&&◌}
 use mathlib.Core.List.{List, [], ◌∷◌, ◌++◌}
-use mathlib.Core.Logic.{⊎_elim}
 use mathlib.Core.Path.{◌≡◌, refl, sym, ◌∙◌, ap}
 use Prim.Native.Nat.{ℕ, suc, ◌+◌, ◌-◌, ◌≤◌, ◌<◌}
 use native.Mathlib.Numerals.{add-one}
 use native.Mathlib.Omega.{arith}
 use borrow.Author.Tests.{ltb-true, ltb-false, le-leb, lt-leb, leb-true, eqb-true, eq-eqb, ne_eqb}
-use denote.Enum.Declared.{tag_of}
 use lib.Dec.{leb, ltb, eqb}
 use lib.ListN.{length, drop, get_or, set, drop_of_length-le}
 use lib.Seq.{drop-cons, sets}
-use types.Run.{OneOf}
-use Rattle.model.specs.contracts.Item.{the_type}
 use Rattle.model.specs.declared.Field.{Field}
 use Rattle.model.specs.declared.Item.{Item}
 use Rattle.model.specs.declared.Item.TheVariants.{Word, Number, LineEnd, Other}
@@ -109,12 +105,6 @@ refuted : (b : Bool) → (b ≡ true → ⊥) → b ≡ false
 refuted true h = absurd (h refl)
 refuted false h = refl
 
-no_word : (i : Item) → OneOf (1 ∷ 2 ∷ 3 ∷ []) (tag_of the_type i) → i ≡ Word → ⊥
-no_word Word h e = ⊎_elim (λ q. omega arith) (⊎_elim (λ q. omega arith) (λ q. omega arith)) h
-no_word (Number v) h e = let z : ◌≡◌ {A = ℕ} 0 1 = cc in omega arith
-no_word LineEnd h e = let z : ◌≡◌ {A = ℕ} 0 1 = cc in omega arith
-no_word Other h e = let z : ◌≡◌ {A = ℕ} 0 1 = cc in omega arith
-
 -- where the item is no word, no letter stands
 word_not : (b : ℕ) (s : List ℕ) (at : ℕ) → is_letter b ≡ true → ((step_at s at).item ≡ Word → ⊥) → is_at b s at ≡ false
 word_not b s at l n =
@@ -124,11 +114,11 @@ word_not b s at l n =
     n (ap (λ (r : Step). r.item) (item_word s at h 257 (rw q l))))
 
 pub name_off : (name s : List ℕ) (at end : ℕ) → (0 < length name) × (is_letter (get_or name 0 0) ≡ true) → (r : Step)
-    → r ≡ step_at s at → OneOf (1 ∷ 2 ∷ 3 ∷ []) (tag_of the_type r.item)
+    → r ≡ step_at s at → (r.item ≡ Word → ⊥)
     → place 10 at ≡ fixed_at (name ++ (end ∷ [])) s at
 name_off [] s at end h r e k = absurd (omega (arith, h.0))
 name_off (b ∷ bs) s at end h r e k =
-    rw (word_not b s at h.1 (λ w. no_word r.item k (ap (λ (r : Step). r.item) e ∙ w)))
+    rw (word_not b s at h.1 (λ w. k (ap (λ (r : Step). r.item) e ∙ w)))
 
 -- a word that was read, and the byte that ends it
 module _ (name s : List ℕ) (at end : ℕ) (p : Place) (e : p ≡ fixed_at name s at) where
@@ -154,10 +144,10 @@ is_line_end (Number v) = false
 is_line_end LineEnd = true
 is_line_end Other = false
 
-pub no_line_end : (i : Item) → OneOf (0 ∷ 1 ∷ 3 ∷ []) (tag_of the_type i) → is_line_end i ≡ false
+pub no_line_end : (i : Item) → (i ≡ LineEnd → ⊥) → is_line_end i ≡ false
 no_line_end Word h = refl
 no_line_end (Number v) h = refl
-no_line_end LineEnd h = absurd (⊎_elim (λ q. omega arith) (⊎_elim (λ q. omega arith) (λ q. omega arith)) h)
+no_line_end LineEnd h = absurd (h refl)
 no_line_end Other h = refl
 
 -- a line end is the byte 10
@@ -198,14 +188,14 @@ module _ (lo hi end : ℕ) (s : List ℕ) (at : ℕ) (r : Step) (e : r ≡ step_
   unfolding field_at
   field_of i f = rw (← e, f)
 
-  no_number : (i : Item) → OneOf (0 ∷ 2 ∷ 3 ∷ []) (tag_of the_type i)
+  no_number : (i : Item) → ((v : ℕ) → i ≡ Number v → ⊥)
       → field 10 r.at 0 ≡ field_by lo hi end s i r.at r.next
   no_number Word h = refl
-  no_number (Number v) h = absurd (⊎_elim (λ q. omega arith) (⊎_elim (λ q. omega arith) (λ q. omega arith)) h)
+  no_number (Number v) h = absurd (h v refl)
   no_number LineEnd h = refl
   no_number Other h = refl
 
-  pub field_other : OneOf (0 ∷ 2 ∷ 3 ∷ []) (tag_of the_type r.item) → field 10 r.at 0 ≡ field_at lo hi end s at
+  pub field_other : ((v : ℕ) → r.item ≡ Number v → ⊥) → field 10 r.at 0 ≡ field_at lo hi end s at
   field_other h = no_number r.item h ∙ field_of r.item refl
 
   module _ (v : ℕ) (f : r.item ≡ Number v) where

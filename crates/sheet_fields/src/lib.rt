@@ -1,6 +1,7 @@
 // Reading the parts of a sheet: names, numbers in their fields, and rows of numbers. Each answers the place after what
 // it read, or a refusal with its byte offset.
 #![tactic(auto)]
+
 ghost use Rattle.std.specs.Prelude.{true, [], ◌∷◌, ◌++◌, ◌≡◌, ◌^◌, ◌≤◌, ◌<◌, length, get_or};
 ghost use Rattle.std.proofs.lemmas.List.Edits.{sets};
 ghost use Rattle.model.specs.Error.{most_cells};
