@@ -1,5 +1,6 @@
 // The header of a PBM or PGM file, read byte by byte, comments left out.
 #![tactic(auto)]
+
 ghost use Rattle.std.specs.Prelude.{false, ◌≡◌, ◌≤◌};
 ghost use Rattle.model.specs.Netpbm.{is_space, ends_comment};
 ghost use Rattle.model.specs.PictureHeader.{commenting, glyphs_at, spaces_from, number_from, magic, number_next, end_next};
