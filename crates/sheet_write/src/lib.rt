@@ -1,5 +1,6 @@
 // Writing the lines of a sheet into an output that is long enough, and how long they are.
 #![tactic(auto)]
+
 ghost use Rattle.std.specs.Prelude.{[], ◌∷◌, ◌++◌, ◌≡◌, ◌+◌, ◌≤◌, length};
 ghost use Rattle.model.specs.Error.{most_cells};
 ghost use Rattle.model.specs.Text.{digits, Puts};
