@@ -19,7 +19,7 @@ few : (c : Start) → length c.args.psf.now ≤ 49
 few c = omega (arith, side_small c.requires.0.near, c.requires.0.square)
 
 pub slice_bounds-p-end : goal.slice_bounds-p-end
-slice_bounds-p-end c = few c
+slice_bounds-p-end c = let s : Start = search in few s
 
 pub slice_bounds-widen-end : goal.slice_bounds-widen-end
 slice_bounds-widen-end c = let s : Start = search in part_whole _ _ (few s)

@@ -17,10 +17,10 @@ few : (c : Start) → (4 * c.args.radius + 1) * (4 * c.args.radius + 1) ≤ 169
 few c = let h = c.requires.near in mul-le-mul {n₂ = 13} {m₂ = 13} (omega arith) (omega arith)
 
 pub overflow_mul-n : goal.overflow_mul-n
-overflow_mul-n c = record { fits = lt_of_le_of_lt (few c) (lit< tt) }
+overflow_mul-n c = let s : Start = search in record { fits = lt_of_le_of_lt (few s) (lit< tt) }
 
 pub slice_bounds-c-end : goal.slice_bounds-c-end
-slice_bounds-c-end c = few c
+slice_bounds-c-end c = let s : Start = search in few s
 
 pub slice_bounds-autocorrelate-end : goal.slice_bounds-autocorrelate-end
 slice_bounds-autocorrelate-end c = let s : Start = search in part_whole _ _ (few s)

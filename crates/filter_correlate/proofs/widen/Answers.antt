@@ -1,5 +1,4 @@
 -- `filter_correlate::widen` meets its contract: the entries passed are the bytes.
-use Prim.Native.Nat.{◌-◌}
 use native.Mathlib.Omega.{arith}
 use mathlib.Core.Path.{sym, ◌∙◌}
 use lib.Dec.{lit<}
