@@ -1,7 +1,6 @@
 -- `filter_passes::add_rows` meets its contract. The loop's invariant: the rows above y are added. The measure is what
 -- is left of the rows.
 use mathlib.Core.Path.{◌≡◌}
-use Prim.Native.Nat.{◌-◌}
 use native.Mathlib.Omega.{arith}
 use mir.Facts.{to_z-of_z}
 use Rattle.filter_passes.proofs.Passes.{added_none, added_rest, added_next}
@@ -36,9 +35,9 @@ add_run-requires c =
     let l = c in
     let p = s.requires in
     let rows = l.loop-y.invariant.1 in record {
-      n_in_bounds = (omega (arith, p.1.0 l.loop-y.y (omega arith), rows.long), p.1.1.0 l.loop-y.y (omega arith));
-      by_index = λ q k. rw (added_rest p.0 rows q k) (p.1.1.1.0.each q);
-      scaled = rw (to_z-of_z s.ranges.amount) p.1.1.1.1;
+      n_in_bounds = (omega (arith, p.by_index l.loop-y.y (omega arith), rows.long), p.by_index_2 l.loop-y.y (omega arith));
+      by_index = λ q k. rw (added_rest p.n_le_stride rows q k) (p.small.0.each q);
+      scaled = rw (to_z-of_z s.ranges.amount) p.small.1;
     }
 
 pub overflow_add-y : goal.overflow_add-y

@@ -1,6 +1,7 @@
 -- `filter_passes::pass` meets its contract: after k entries of the psf the output is what they come to.
 use mathlib.Core.Path.{◌≡◌, sym, ◌∙◌, ap, ap₂}
-use Prim.Native.Nat.{◌-◌, ◌≤◌}
+use Prim.Native.Nat.{ℕ, ◌≤◌}
+use mathlib.Core.List.{List}
 use native.Mathlib.Omega.{arith}
 use lib.Dec.{lit<, lit≤}
 use lib.IntN.{pos}
@@ -13,7 +14,6 @@ use Rattle.invariants.proofs.Window.{scaled_by, small_by}
 use Rattle.filter_passes.specs.Passes.{passed_at, passed}
 use Rattle.filter_passes.proofs.Passes.{pass_none, pass_next, pass_small}
 use Rattle.filter_passes.proofs.pass.Goals as goal
-use Rattle.filter_passes.proofs.pass.Goals.{After-corner-at, After-shared_slice_known-in-loop-k-1, Start}
 
 pub clear_numbers-requires : goal.clear_numbers-requires
 clear_numbers-requires c = tt
@@ -51,28 +51,20 @@ overflow_cast-amount c =
     record { sfits = omega (arith, c.shared_slice_known-in-loop-k-1.given l.loop-k.k) }
 
 -- in a turn: the entry of the psf as the call takes it
-module _ (c : After-shared_slice_known-in-loop-k-1) where
-  abbrev s : Start
-  s = search
-
-  abbrev l : After-shared_slice_known-in-loop-k-1
-  l = c
-
-  amount : Holds w32 (get_or s.args.psf.now l.loop-k.k 0) (pos (get_or s.args.psf.now l.loop-k.k 0)) 255
-  unfolding s l
-  amount = of_cast w32 _ (omega (arith, c.shared_slice_known-in-loop-k-1.given l.loop-k.k)) (lit< tt)
+entry : (psf : List ℕ) (k : ℕ) → get_or psf k 0 ≤ 255 → Holds w32 (get_or psf k 0) (pos (get_or psf k 0)) 255
+entry psf k low = of_cast w32 _ low (lit< tt)
 
 pub add_rows-requires : goal.add_rows-requires
-unfolding s l
 add_rows-requires c =
-    let b = c in
-    let at = c in
-    let there = c in
-    let a = (s b).args in
-    let k = (l b).loop-k.k in
-    let inv = (l b).loop-k.invariant in
-    let (wide, fits, small) = (s b).requires.width_nonzero in
-    let (from, to) = (s b).requires.lies in
+    let a = c.args in
+    let k = c.loop-k.k in
+    let low : get_or a.psf.now k 0 ≤ 255 = omega (arith, c.shared_slice_known-in-loop-k-1.given k) in
+    let inv = c.loop-k.invariant in
+    let wide = c.requires.width_nonzero.0 in
+    let fits = c.requires.width_nonzero.1 in
+    let small = c.requires.width_nonzero.2 in
+    let from = c.requires.lies.0 in
+    let to = c.requires.lies.1 in
     let long = table_long _ _ inv.1 in record {
       n_le_stride = omega (arith, to.wide 0);
       by_index = λ y h. omega (arith, to.ends k y (omega (arith, fits.square)) h, long);
@@ -81,7 +73,7 @@ add_rows-requires c =
         small_by _ _ inv.1 (λ q.
             pass_small a.width a.height a.radius a.psf.now a.from a.to a.c.now k q wide small
             fits.sum_high inv.0),
-        scaled_by _ a.c.now (size_of (amount b)) small (lit≤ tt),
+        scaled_by _ a.c.now (size_of (entry a.psf.now k low)) small (lit≤ tt),
       );
     }
 
@@ -92,16 +84,13 @@ pub loop-k-smaller : goal.loop-k-smaller
 loop-k-smaller c = omega arith
 
 pub loop-k-preserved : goal.loop-k-preserved
-unfolding s l
 loop-k-preserved c =
-    let b = (goal.at.loop-k-preserved c).After-shared_slice_known-in-loop-k-1 in
-    let at = (goal.at.loop-k-preserved c).After-corner-at in
-    let there = c in
-    let a = (s b).args in (
+    let a = c.args in
+    let low : get_or a.psf.now c.loop-k.k 0 ≤ 255 = omega (arith, c.shared_slice_known-in-loop-k-1.given c.loop-k.k) in (
       omega arith,
-      pass_next a.width a.height a.radius a.psf.now a.from a.to a.c.now _ (l b).loop-k.k
-          (s b).requires.width_nonzero.0 (s b).requires.lies.1 (l b).loop-k.invariant.1 (amount b).value
-          (rw (at.corner-at.ensures, there.corner-there.ensures) at c.add_rows.ensures),
+      pass_next a.width a.height a.radius a.psf.now a.from a.to a.c.now _ c.loop-k.k
+          c.requires.width_nonzero.0 c.requires.lies.1 c.loop-k.invariant.1 (entry a.psf.now c.loop-k.k low).value
+          (rw (c.corner-at.ensures, c.corner-there.ensures) at c.add_rows.ensures),
     )
 
 pub returns : goal.returns
