@@ -1,5 +1,6 @@
 // The table of a judged plate, by two passes over whole rows, and the squared error by one pass over the table.
 #![tactic(auto)]
+
 ghost use Rattle.std.specs.Prelude.{◌≡◌, ◌<◌, ◌≤◌, nat_abs, length, get_or};
 ghost use Rattle.model.specs.Error.{error_of, target_of, most_cells, most_filtered, filtered_errors, squared_error};
 ghost use Rattle.model.specs.Refusal.{HalftoneFits};
