@@ -1,6 +1,7 @@
 // Judging the cells that an attempt names: 8 and 9 by their places, 23 by their gray, 22 by their dots. Each function
 // answers the number of the refusal that is drawn, 0 for none.
 #![tactic(auto)]
+
 ghost use Rattle.std.specs.Prelude.{[], ◌∷◌, ◌≡◌, ◌<◌, length};
 ghost use Rattle.model.specs.Refusal.{first_of, gap, bad_cell, bad_cells, bad_pair};
 ghost use Rattle.model.specs.State.{bad_locked, bad_locked_pair, bad_like};

@@ -4,11 +4,9 @@ use mathlib.Core.List.{[], ◌∷◌}
 use mathlib.Core.Path.{◌≡◌, refl}
 use Prim.Native.Nat.{ℕ, ◌≤◌, ◌<◌}
 use native.Mathlib.Omega.{arith}
-use borrow.Author.Rules.{rules}
 use borrow.Author.Tests.{lt-ltb, le-ltb, eq-eqb, ne_eqb}
 use Rattle.model.specs.Refusal.{first_of, gap, bad_pair}
-use Rattle.judge_cells.proofs.judge_pair.Statement.{statement}
-use Rattle.judge_cells.proofs.judge_pair.Tie as tie
+use Rattle.judge_cells.proofs.judge_pair.Goals as goal
 
 and-false : (a : Bool) → a && false ≡ false
 and-false true = refl
@@ -50,52 +48,34 @@ module _ (reach row col row2 col2 : ℕ) where
       itself : gap row row2 ≤ 0 → gap col col2 ≤ 0 → 9 ≡ number
       itself h k = rw (eq-eqb row row2 (omega arith), eq-eqb col col2 (omega arith)) refl
 
-distance-requires : tie.Need-distance-requires
-distance-requires c κs = search rules
-
-distance-requires-2 : tie.Need-distance-requires-2
-distance-requires-2 c κs = search rules
-
-returns : tie.Need-returns
-returns c =
-    let s : tie.Start = search in
+pub returns-then-reach-down : goal.returns-then-reach-down
+returns-then-reach-down c =
+    let s = c in
     let a = s.args in
     far-down a.reach a.at.row a.at.col a.to.row a.to.col (omega arith)
 
-returns-2 : tie.Need-returns-2
-returns-2 c =
-    let s : tie.Start = search in
+pub returns-then-reach-across : goal.returns-then-reach-across
+returns-then-reach-across c =
+    let s = c in
     let a = s.args in
     far-across a.reach a.at.row a.at.col a.to.row a.to.col (omega arith) (omega arith)
 
-returns-3 : tie.Need-returns-3
-returns-3 c =
-    let s : tie.Start = search in
+pub returns-then-down-gt0 : goal.returns-then-down-gt0
+returns-then-down-gt0 c =
+    let s = c in
     let a = s.args in
     other_row a.reach a.at.row a.at.col a.to.row a.to.col (omega arith) (omega arith) (omega arith)
 
-returns-4 : tie.Need-returns-4
-returns-4 c =
-    let s : tie.Start = search in
+pub returns-then-across-gt0 : goal.returns-then-across-gt0
+returns-then-across-gt0 c =
+    let s = c in
     let a = s.args in
     other-column a.reach a.at.row a.at.col a.to.row a.to.col
     (omega arith) (omega arith) (omega arith)
 
-returns-5 : tie.Need-returns-5
-returns-5 c =
-    let s : tie.Start = search in
+pub returns : goal.returns
+returns c =
+    let s = c in
     let a = s.args in
     itself a.reach a.at.row a.at.col a.to.row a.to.col
     (omega arith) (omega arith) (omega arith) (omega arith)
-
-pub judge-pair-spec : {M : Type 1} → statement M
-judge-pair-spec =
-    tie.close
-    (tie.spec
-    distance-requires
-    distance-requires-2
-    returns
-    returns-2
-    returns-3
-    returns-4
-    returns-5)
