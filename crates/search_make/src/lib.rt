@@ -1,5 +1,6 @@
 // Making a change of a judged plate whose kernel is c: a byte is stored and the table follows, and the ledger counts it.
 #![tactic(auto)]
+
 ghost use Rattle.std.specs.Prelude.{◌≡◌, ◌≤◌, eqb, ◌+ℤ◌, set};
 ghost use Rattle.model.specs.Basic.{pick};
 ghost use Rattle.model.specs.Error.{target_for, filtered_errors};
