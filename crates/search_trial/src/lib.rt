@@ -1,5 +1,6 @@
 // A change of a judged plate whose kernel is c: weighed by the table, and made where it lowers the squared error.
 #![tactic(auto)]
+
 ghost use Rattle.std.specs.Prelude.{◌≡◌, ◌^◌, ◌<◌};
 ghost use Rattle.model.specs.Error.{target_for};
 ghost use Rattle.model.specs.Reference.{reference, attempt};
