@@ -1,6 +1,7 @@
 // The cells of a scan, one after the other in raster order, and the partners of a cell: what those within reach are worth,
 // and the cells where they lead.
 #![tactic(auto)]
+
 ghost use Rattle.std.specs.Prelude.{◌≡◌, suc, ◌+◌, ◌*◌, ◌<◌, ◌≤◌, length};
 ghost use Rattle.model.specs.Basic.{pick};
 ghost use Rattle.model.specs.Partners.{lands, partner};
