@@ -2,6 +2,7 @@
 // lowers the squared error in it, whatever is locked. Where none does, the trials in order can be left out. And how many
 // of its cells are locked.
 #![tactic(auto)]
+
 ghost use Rattle.std.specs.Prelude.{true, false, ◌≡◌, ◌+◌, ◌*◌, ◌<◌, ◌≤◌, nat_abs, length};
 ghost use Rattle.model.specs.Error.{most_filtered, most_cells};
 ghost use Rattle.invariants.specs.Plate.{cell_of};
