@@ -1,6 +1,7 @@
 // A toggle scan of a judged plate whose kernel is c. Locked cells, and runs of cells where no toggle is accepted, are
 // passed over.
 #![tactic(auto)]
+
 ghost use Rattle.std.specs.Prelude.{false, ◌≡◌, ℕ, ◌+◌, ◌^◌, ◌≤◌, ◌<◌};
 ghost use Rattle.model.specs.Change as Change;
 ghost use Rattle.model.specs.Change.{lowers};
