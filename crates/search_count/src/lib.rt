@@ -2,6 +2,7 @@
 // every column within reach, and from these, sliding along the row, those within reach of each cell. Those of a cell
 // up to a partner. And how many cells are unlocked.
 #![tactic(auto)]
+
 ghost use Rattle.std.specs.Prelude.{◌≡◌, ◌+◌, ◌*◌, ◌≤◌, ◌<◌, length};
 ghost use Rattle.model.specs.Basic.{AtMost};
 ghost use Rattle.model.specs.Error.{target_for, cell_at};
