@@ -1,5 +1,6 @@
 // The lines that the program `settle` prints beside a sheet: a refusal, and the two lines of the ledger.
 #![tactic(auto)]
+
 ghost use Rattle.std.specs.Prelude.{◌≡◌, ◌+◌, ◌≤◌, length};
 ghost use Rattle.model.specs.Text.{Puts};
 ghost use Rattle.model.specs.Program.{refused_text, stats_text, whole, most_printed, Prints};
