@@ -1,7 +1,7 @@
 // What the program `settle` does between its input and its output.
 #![tactic(auto)]
 ghost use Rattle.std.specs.Prelude.{◌≡◌, ◌≤◌, pos, length, take, replicate};
-ghost use Rattle.model.specs.Calls.{result, buffers};
+ghost use Rattle.model.specs.Calls.{result as answered, buffers};
 ghost use Rattle.model.specs.Sheet.{entries_of, cells_of, InRange};
 ghost use Rattle.model.specs.Program.{converged_text, started_text, processed_text, most_printed, Prints, output};
 ghost use Rattle.settle_program.specs.Printable.{Printable};
@@ -23,8 +23,8 @@ fn put_result(
     out: &mut [u8],
 ) -> usize
     requires { Printable m psf.now gray.now dots.now out.old }
-    ensures* { λ r. ⌜ Prints (converged_text m psf.now gray.now (result done) dots.now)
-        out.old out.new r ⌝ }
+    ensures { Prints (converged_text m psf.now gray.now (answered done) dots.now)
+        out.old out.new result }
 {
     let end = put_sheet(out, m, psf, gray, dots);
     put_stats(out, end, done)
@@ -41,8 +41,8 @@ fn put_converged(
     out: &mut [u8],
 ) -> usize
     requires { Printable m psf.now gray.now dots.old out.old }
-    ensures* { λ r. ⌜ Prints (started_text m psf.now gray.now (result stats)
-        (buffers dots.old table.old)) out.old out.new r ⌝ }
+    ensures { Prints (started_text m psf.now gray.now (answered stats)
+        (buffers dots.old table.old)) out.old out.new result }
 {
     let answer = converge(m, psf, gray, dots, table, stats);
     match answer {
@@ -61,8 +61,8 @@ fn put_started(
     out: &mut [u8],
 ) -> usize
     requires { Printable m psf.now gray.now dots.old out.old }
-    ensures* { λ r. ⌜ Prints (processed_text m psf.now gray.now dots.old
-        table.old) out.old out.new r ⌝ }
+    ensures { Prints (processed_text m psf.now gray.now dots.old
+        table.old) out.old out.new result }
 {
     let answer = start(m, psf, gray, dots, table);
     match answer {
@@ -75,9 +75,9 @@ fn put_started(
 fn process(m: Measures, psf: &[u8], gray: &[u8], dots: &mut [u8], out: &mut [u8]) -> usize
     requires in_range { InRange m × (cells_of m ≤ 4096) × (most_printed ≤ length out.old) }
     requires m_in_bounds { (entries_of m ≤ length psf.now) × (cells_of m ≤ length gray.now) × (cells_of m ≤ length dots.old) }
-    ensures* { λ r. ⌜ Prints (processed_text m (take (entries_of m) psf.now)
+    ensures { Prints (processed_text m (take (entries_of m) psf.now)
         (take (cells_of m) gray.now) (take (cells_of m) dots.old) (replicate (cells_of m) (pos 0)))
-        out.old out.new r ⌝ }
+        out.old out.new result }
 {
     let side = 2 * m.radius + 1;
     let entries = side * side;
@@ -95,8 +95,8 @@ fn process(m: Measures, psf: &[u8], gray: &[u8], dots: &mut [u8], out: &mut [u8]
 
 // Puts what is printed for an input at the front of an output of 40,960 bytes, and answers its length.
 pub fn run(input: &[u8], out: &mut [u8; MOST_PRINTED]) -> usize
-    ensures* fact { λ r. ⌜ Prints (output input.now) out.old out.new r ⌝ }
-    ensures* fact_2 { λ r. ⌜ (r ≤ length out.new) × (r ≡ length (take r out.new)) ⌝ }
+    ensures printed { Prints (output input.now) out.old out.new result }
+    ensures within { (result ≤ length out.new) × (result ≡ length (take result out.new)) }
 {
     if 32768 < input.len() {
         return put_refused(out, 13, 0);
