@@ -1,5 +1,6 @@
 // Reading the lines of a sheet: lines 1 and 2, then the blocks of psf, gray and dots, judged first and stored after.
 #![tactic(auto)]
+
 ghost use Rattle.std.specs.Prelude.{true, ◌≡◌, ◌≤◌, length};
 ghost use Rattle.std.proofs.lemmas.List.Edits.{sets};
 ghost use Rattle.model.specs.Error.{most_cells};
