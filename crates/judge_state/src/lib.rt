@@ -1,6 +1,7 @@
 // Judging the state that the later calls are handed: the table against one that is worked out afresh (20), and then the
 // ledger (21).
 #![tactic(auto)]
+
 ghost use Rattle.std.specs.Prelude.{◌≡◌, pos, length, get_or};
 ghost use Rattle.model.specs.Error.{target_for};
 ghost use Rattle.model.specs.Ledger.{unequal};
