@@ -1,6 +1,7 @@
 // The quick test of all partners of a cell by the table: row by row of those within reach, whether a swap with one might
 // lower the squared error. Where none does, the trials in order can be left out.
 #![tactic(auto)]
+
 ghost use Rattle.std.specs.Prelude.{true, false, ◌≡◌, ◌+◌, ◌*◌, ◌<◌, ◌≤◌, pos, nat_abs, length, get_or};
 ghost use Rattle.model.specs.Basic.{square_at};
 ghost use Rattle.model.specs.Error.{most_filtered};
