@@ -2,6 +2,7 @@
 // 21, then those of a change of their dots (23, 22). Each function answers the number of the first that is drawn, 0 for
 // none.
 #![tactic(auto)]
+
 ghost use Rattle.std.specs.Prelude.{◌≡◌};
 ghost use Rattle.model.specs.State.{later_refusal, toggle_refusal, swap_refusal};
 
