@@ -1,6 +1,7 @@
 // Judging what the calls for PBM and PGM files are handed: each function answers the number of the first refusal that
 // is drawn, 0 for none.
 #![tactic(auto)]
+
 ghost use Rattle.std.specs.Prelude.{[], ◌∷◌, ◌++◌, ◌≡◌, ◌≤◌, length};
 ghost use Rattle.model.specs.Refusal.{first_of, outside, bad_size, bad_dot};
 ghost use Rattle.model.specs.PictureHeader.{most_value};
