@@ -1,5 +1,6 @@
 // The lines above the raster of a PBM or PGM file that is written, and how long the whole file is.
 #![tactic(auto)]
+
 ghost use Rattle.std.specs.Prelude.{◌≡◌, ◌+◌, ◌*◌, ◌≤◌, length};
 ghost use Rattle.model.specs.Text.{Puts};
 ghost use Rattle.model.specs.Netpbm.{InSize, size_line, pbm_head, pgm_head, packed_size, cells_in};
