@@ -1,5 +1,4 @@
 -- `starts_screen::blank_dots` meets its contract: the cells passed have their dots.
-use Prim.Native.Nat.{◌-◌}
 use native.Mathlib.Omega.{arith}
 use Rattle.model.specs.Lock.{locked}
 use Rattle.model.specs.Screen.{blank}

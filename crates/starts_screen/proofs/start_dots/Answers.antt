@@ -2,12 +2,12 @@
 -- are. That the table of 256 thresholds follows the bit rule is one computed test of the whole table: `refl` in `order-
 -- requires`, where it is lent.
 use mathlib.Core.Path.{refl, sym, ◌∙◌, ap}
+use native.Mathlib.Omega.{arith}
 use Rattle.model.specs.Basic.{tabulate}
 use Rattle.model.specs.Psf.{total}
 use Rattle.model.specs.Screen.{bayer, thresholds, blank, ordered}
 use Rattle.model.proofs.Screen.{is_blank, is_ordered, is_given}
 use Rattle.starts_screen.proofs.start_dots.Goals as goal
-use Rattle.starts_screen.proofs.start_dots.Goals.{After-blank_dots, After-order}
 
 pub blank_dots-requires : goal.blank_dots-requires
 blank_dots-requires c = let s = c in let (gray, dots) = s.requires.gray_len in dots ∙ sym gray
@@ -15,33 +15,24 @@ blank_dots-requires c = let s = c in let (gray, dots) = s.requires.gray_len in d
 pub order-requires : goal.order-requires
 unfolding thresholds tabulate total bayer
 order-requires c =
-    let s = c in
-    let (wide, (gray, dots)) = s.requires in record {
+    record {
       array_value = refl;
-      width_nonzero = (wide, dots ∙ sym gray);
+      width_nonzero = (c.requires.width_nonzero, c.requires.gray_len.1 ∙ sym c.requires.gray_len.0);
     }
 
 pub returns-in-0 : goal.returns-in-0
 returns-in-0 c =
-    let s = c in
-    let m = c in
-    let k = (goal.at.returns-in-0 c).After-blank_dots in
-    k.blank_dots.ensures
-    ∙ ap (λ k. tabulate k (blank s.args.gray.now)) s.requires.gray_len.0
-    ∙ sym (is_blank _ _ _ m.in_default.keys1)
+    c.blank_dots.ensures
+    ∙ ap (λ k. tabulate k (blank c.args.gray.now)) c.requires.gray_len.0
+    ∙ sym (is_blank _ _ _ c.in-0.is)
 
 pub returns-in-1 : goal.returns-in-1
 returns-in-1 c =
-    let s = c in
-    let m = c in
-    let k = (goal.at.returns-in-1 c).After-order in
-    k.order.ensures
-    ∙ ap (λ k. tabulate k (ordered s.args.measures.width s.args.gray.now)) s.requires.gray_len.0
-    ∙ sym (is_ordered _ _ _ m.in_default.keys2)
+    c.order.ensures
+    ∙ ap (λ k. tabulate k (ordered c.args.measures.width c.args.gray.now)) c.requires.gray_len.0
+    ∙ sym (is_ordered _ _ _ c.in-1.is)
 
 pub returns-in_default : goal.returns-in_default
 returns-in_default c =
-    let s = c in
-    let a = s.args in
-    let rest = c.in_default.rest in
-    sym (is_given a.measures a.gray.now a.dots.now rest.0.1 rest.1)
+    let a = c.args in
+    sym (is_given a.measures a.gray.now a.dots.now (λ e. omega arith) (λ e. omega arith))
