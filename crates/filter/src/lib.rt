@@ -1,6 +1,7 @@
 // The public calls for the autocorrelation, the filtered error (document 01: the table) and the squared error. Each
 // judges what it is handed, and only then works; a refusal changes nothing.
 #![tactic(auto)]
+
 ghost use Rattle.std.specs.Prelude.{◌≡◌};
 ghost use Rattle.model.specs.Calls.{Ends, filled, valued, autocorrelation_call, filtered_error_call, squared_error_call};
 
