@@ -1,5 +1,6 @@
 // The trials of a scan: the swaps weighed from a cell on up to the one that is taken, and the unlocked cells.
 #![tactic(auto)]
+
 ghost use Rattle.std.specs.Prelude.{not, ◌≡◌, ◌≤◌, ◌<◌, length, take};
 ghost use Rattle.model.specs.Basic.{tabulate, one_if, pick};
 ghost use Rattle.model.specs.Error.{target_for, most_cells};

@@ -1,0 +1,20 @@
+-- `search_tally::unlocked` meets its contract: so far the unlocked cells before `i` are counted.
+use mathlib.Core.Bool.{not}
+use mathlib.Core.List.{List}
+use mathlib.Core.Path.{◌≡◌}
+use Prim.Native.Nat.{ℕ, ◌-◌, ◌≤◌}
+use lib.ListN.{length}
+use Rattle.model.specs.Basic.{one_if, tabulate}
+use Rattle.model.specs.Lock.{locked}
+use Rattle.model.specs.Psf.{total}
+use Rattle.search_tally.proofs.unlocked.Given as goal
+
+-- how many of the first k cells are unlocked
+abbrev pub open-cells : (gray : List ℕ) (k : ℕ) → ℕ
+open-cells gray k = total (tabulate k (λ n. one_if (not (locked gray n))))
+
+abbrev pub invariant-loop-i : goal.invariant-loop-i
+invariant-loop-i l = (l.i ≤ length l.gray) × (l.count ≤ l.i) × (l.count ≡ open-cells l.gray l.i)
+
+abbrev pub decreases-loop-i : goal.decreases-loop-i
+decreases-loop-i l = length l.gray - l.i
