@@ -1,6 +1,7 @@
 // The public call that starts a plate: it judges what it is handed, writes the dots of the kind asked for and their
 // table, and answers a fresh ledger. A refusal changes nothing.
 #![tactic(auto)]
+
 ghost use Rattle.std.specs.Prelude.{◌≡◌, length};
 ghost use Rattle.model.specs.Basic.{AtMost};
 ghost use Rattle.model.specs.Error.{target_for, filtered_errors};
