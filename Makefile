@@ -1,6 +1,6 @@
 # The commands of the README. `make lib`, `make plate` and `make install` prove the library first, where its sources
 # have changed.
-.PHONY: all lib plate install uninstall always example test quick
+.PHONY: all lib plate settle install uninstall always example test quick
 
 PREFIX = /usr/local
 DESTDIR =
@@ -85,6 +85,9 @@ example: target/bin/settle target/bin/plate
 	@target/bin/settle <examples/knolls.sheet | target/bin/plate check
 	@target/bin/plate settle -o target/knolls.pbm examples/knolls.sheet
 	@target/bin/plate show target/knolls.pbm
+
+# the program `settle`, in target/bin
+settle: target/bin/settle
 
 # proves and builds a program of crates/, which runs once as it is built, on no input
 target/bin/settle target/bin/examples: target/bin/%: $(sources)
