@@ -1,5 +1,6 @@
 // The lines of a PFM, read as those of a sheet, and what they and the lengths are refused for.
 #![tactic(auto)]
+
 ghost use Rattle.std.specs.Prelude.{true, ◌≡◌};
 ghost use Rattle.model.specs.Netpbm.{InSize};
 ghost use Rattle.model.specs.Pfm.{size_in};
