@@ -1,5 +1,6 @@
 // The dots of each row of a packed raster, eight cells together.
 #![tactic(auto)]
+
 ghost use Rattle.std.specs.Prelude.{◌≡◌, ◌+◌, ◌*◌, ◌-◌, ◌≤◌, min, length};
 ghost use Rattle.model.specs.Basic.{tabulate, bit};
 ghost use Rattle.model.specs.Psf.{total};

@@ -6,32 +6,19 @@ use native.Mathlib.Omega.{arith}
 use borrow.Author.Rules.{rules}
 use lib.Count.{ones, ones-le}
 use Rattle.picture_count.proofs.Counts.{ones_left}
-use Rattle.picture_count.proofs.count_byte.Statement.{statement}
-use Rattle.picture_count.proofs.count_byte.Tie as tie
+use Rattle.picture_count.proofs.count_byte.Goals as goal
 
-returns : tie.Need-returns
-returns c =
-    let a = c.before.args in
+pub returns-then-left-ge8 : goal.returns-then-left-ge8
+returns-then-left-ge8 c =
+    let a = c.args in
     let most : min a.left 8 ≡ 8 = omega arith in
     let count = ap ones (sym (div-one a.byte)) ∙ ones_left a.byte 8 (search rules) (omega arith) in
     (count ∙ rw most, ones-le 8 a.byte (search rules))
 
-sub-result : tie.Need-overflow-sub-result
-sub-result c = search rules
-
-cast-result : tie.Need-overflow-cast-result
-cast-result c = search rules
-
-shr-result : tie.Need-overflow-shr-result
-shr-result c = search rules
-
-returns-2 : tie.Need-returns-2
-returns-2 c =
-    let a = c.before.args in
+pub returns : goal.returns
+returns c =
+    let a = c.args in
     let most : min a.left 8 ≡ a.left = omega arith in
     let count = ones_left a.byte a.left (search rules) (omega arith) in
     let few = ones-le 8 (a.byte / 2 ^ (8 - a.left)) (omega (arith, div-le_self a.byte (2 ^ (8 - a.left)))) in
     (count ∙ rw most, few)
-
-pub count-byte-spec : {M : Type 1} → statement M
-count-byte-spec = tie.close (tie.spec returns sub-result cast-result shr-result returns-2)
