@@ -63,8 +63,6 @@ pub returns : goal.returns
 returns c =
     let s = c in
     let narrow = c in
-    let most = c in
-    let near = c in
     let fits : LayoutFits s.args.h s.args.raster s.args.file =
     record {
       good = not-false _ c.if-not-h.false;
@@ -72,7 +70,7 @@ returns c =
         wide = inside 256 s.args.h.width (sym c.outside.ensures ∙ narrow.if-outside.false);
         high = inside 256 s.args.h.height (sym c.outside-2.ensures ∙ c.if-outside-2.false);
       };
-      allowed = (omega (arith, near.if-h-lt1.false), omega (arith, most.if-h-gt65535.false));
+      allowed = (omega arith, omega arith);
       exact = omega (arith, c.if-file-h-2.false);
     } in
     rw (layout_none s.args.h s.args.raster s.args.file fits)

@@ -44,6 +44,5 @@ returns c =
     let s : Start = search in
     let judged = c in
     let left = c in
-    let most = c in
     by_second (layout s) (rest s) tt judged.judge_layout-layout.ensures left.if-layout-ne0.false
-    (rw (eq-eqb s.args.h.maximum 255 (omega (arith, most.if-h-ne255.false))) c.judge_room.ensures)
+    (rw (eq-eqb s.args.h.maximum 255 (omega arith)) c.judge_room.ensures)
