@@ -1,6 +1,7 @@
 // The public call for the tone balance (02, C-15): by how much a plate is darker than its ground. It judges what it is
 // handed, and only then sums and divides.
 #![tactic(auto)]
+
 ghost use Rattle.std.specs.Prelude.{◌≡◌, ◌+◌, ◌*◌, ◌<◌, ◌≤◌, pos, neg_ℤ, ◌-ℤ◌};
 ghost use Rattle.model.specs.Balance.{divided, balanced, balance_refusals, balance_call};
 ghost use Rattle.model.specs.Error.{black, most_cells};

@@ -4,7 +4,6 @@ use mathlib.Core.Path.{◌≡◌, refl, sym, ◌∙◌, ap, ap₂}
 use Prim.Native.Nat.{ℕ, ◌*◌, ◌≤◌}
 use native.Mathlib.Nat.{mul-le-mul}
 use native.Mathlib.Omega.{arith}
-use borrow.Author.Rules.{rules}
 use lib.IntN.{pos, ◌-ℤ◌}
 use lib.ListN.{length}
 use Rattle.algebra.proofs.Machine.{factors_fit}
@@ -19,25 +18,24 @@ use Rattle.model.specs.Balance.{divided, tone_difference, target_of_size, balanc
 use Rattle.model.proofs.Balance.{balance_fits, some_cells}
 use Rattle.model.proofs.Calls.{is_refused, is_done}
 use Rattle.model.proofs.State.{total≤}
-use Rattle.balance.proofs.tone_balance.Statement.{statement}
-use Rattle.balance.proofs.tone_balance.Tie as tie
+use Rattle.balance.proofs.tone_balance.Goals as goal
+use Rattle.balance.proofs.tone_balance.Goals.{Else-number-ne0, Start}
 
 -- what was handed in, where nothing is drawn
-module _ (c : tie.Else1) where
-  s : tie.Start
+module _ (c : Else-number-ne0) where
+  abbrev s : Start
   s = search
 
-  judged : tie.After-judge-balance
-  judged = search
+  abbrev judged : Else-number-ne0
+  judged = c
 
   fits : InSize s.args.size
       × (length s.args.gray.now ≡ cells_in s.args.size)
       × (length s.args.dots.now ≡ cells_in s.args.size)
       × AtMost 1 s.args.dots.now
-  unfolding s judged
   fits =
       balance_fits s.args.size (length s.args.gray.now) s.args.dots.now
-      judged.judge-balance.ensures c.if1.false
+      judged.judge_balance-number.ensures c.if-number-ne0.false
 
   few : cells_in s.args.size ≤ most_cells
   few = mul-le-mul {n₂ = 256} {m₂ = 256} fits.0.high.1 fits.0.wide.1
@@ -47,11 +45,10 @@ module _ (c : tie.Else1) where
   dots_few = omega (arith, few, fits.2, total≤ 1 s.args.dots.now fits.3)
 
   gray_few : total s.args.gray.now ≤ black * most_cells
-  unfolding s
   gray_few =
-      let known : tie.After-shared-slice-known = search in
+      let known = c in
       let bytes : AtMost 255 s.args.gray.now =
-      record { each = λ i. omega (arith, known.shared-slice-known.given i) } in
+      record { each = λ i. omega (arith, known.shared_slice_known-1.given i) } in
       omega (arith, few, fits.1, total≤ 255 s.args.gray.now bytes)
 
 -- the two sums divided are the difference divided
@@ -63,71 +60,49 @@ by-sums : (z : Size) (gray dots : List ℕ) (d g : ℕ) {b : ToneBalance}
 unfolding tone_difference
 by-sums z gray dots d g e f h = e ∙ ap₂ (λ d g. divided (pos (255 * d) -ℤ pos g) (cells_in z)) f h
 
-judge-balance-requires : tie.Need-judge-balance-requires
-judge-balance-requires c κs = search rules
-
-returns : tie.Need-returns
+pub returns-then-number-ne0 : goal.returns-then-number-ne0
 unfolding balance_call
-returns c =
-    let judged : tie.After-judge-balance = search in
-    (is_refused tt _ _ judged.judge-balance.ensures c.if1.true).0
+returns-then-number-ne0 c =
+    let judged = c in
+    (is_refused tt _ _ judged.judge_balance-number.ensures c.if-number-ne0.true).0
 
-mul-cells : tie.Need-overflow-mul-cells
-unfolding s
-mul-cells c =
-    let e : tie.Else1 = search in
+pub overflow_mul-cells : goal.overflow_mul-cells
+overflow_mul-cells c =
+    let e = (goal.at.overflow_mul-cells c).Else-number-ne0 in
     factors_fit 256 256 (fits e).0.high.1 (fits e).0.wide.1 tt
 
-sum-requires : tie.Need-sum-requires
-unfolding s
-sum-requires c κs =
-    let e : tie.Else1 = search in
+pub sum-worth-requires : goal.sum-worth-requires
+sum-worth-requires c =
+    let e = (goal.at.sum-worth-requires c).Else-number-ne0 in
     omega (arith, few e, (fits e).2)
 
-mul-worth : tie.Need-overflow-mul-worth
-unfolding s
-mul-worth c =
-    let e : tie.Else1 = search in
-    record { fits = omega (arith, dots_few e, c.sum.ensures) }
+pub overflow_mul-worth : goal.overflow_mul-worth
+overflow_mul-worth c =
+    let e = (goal.at.overflow_mul-worth c).Else-number-ne0 in
+    record { fits = omega (arith, dots_few e, c.sum-worth.ensures) }
 
-sum-requires-2 : tie.Need-sum-requires-2
-unfolding s
-sum-requires-2 c κs =
-    let e : tie.Else1 = search in
+pub sum-total-requires : goal.sum-total-requires
+sum-total-requires c =
+    let e = (goal.at.sum-total-requires c).Else-number-ne0 in
     omega (arith, few e, (fits e).1)
 
-divide-requires : tie.Need-divide-requires
-unfolding s
-divide-requires c κs =
-    let e : tie.Else1 = search in
-    let worth : tie.After-sum = search in
+pub divide-balance-requires : goal.divide-balance-requires
+divide-balance-requires c =
+    let e = (goal.at.divide-balance-requires c).Else-number-ne0 in
+    let worth = c in
     let z = (s e).args.size in (
-      omega (arith, dots_few e, gray_few e, worth.sum.ensures, c.sum2.ensures),
-      omega (arith, dots_few e, gray_few e, worth.sum.ensures, c.sum2.ensures),
+      omega (arith, dots_few e, gray_few e, worth.sum-worth.ensures, c.sum-total.ensures),
+      omega (arith, dots_few e, gray_few e, worth.sum-worth.ensures, c.sum-total.ensures),
       omega (arith, some_cells z (fits e).0, (fits e).0.wide.0),
     )
 
-returns-2 : tie.Need-returns-2
-unfolding balance_call s judged
-returns-2 c =
-    let e : tie.Else1 = search in
-    let worth : tie.After-sum = search in
-    let gray-sum : tie.After-sum2 = search in
+pub returns : goal.returns
+unfolding balance_call
+returns c =
+    let e = (goal.at.returns c).Else-number-ne0 in
+    let worth = c in
     let a = (s e).args in
-    let taken = sym (judged e).judge-balance.ensures ∙ e.if1.left in
-    ap result (by-sums a.size a.gray.now a.dots.now worth.sum.result gray-sum.sum2.result
-    c.divide.ensures worth.sum.ensures gray-sum.sum2.ensures)
+    let taken = sym (judged e).judge_balance-number.ensures ∙ e.if-number-ne0.false in
+    ap result (by-sums a.size a.gray.now a.dots.now worth.sum-worth.result c.sum-total.result
+    c.divide-balance.ensures worth.sum-worth.ensures c.sum-total.ensures)
     ∙ (is_done tt _ _ taken refl).0
-
-pub tone-balance-spec : {M : Type 1} → statement M
-tone-balance-spec =
-    tie.close
-    (tie.spec
-    judge-balance-requires
-    returns
-    mul-cells
-    sum-requires
-    mul-worth
-    sum-requires-2
-    divide-requires
-    returns-2)
