@@ -20,7 +20,7 @@ use Rattle.model.specs.Ledger.{count_of}
 -- ---- numbers into a slice
 -- a signed number, held as bits, is itself
 pub held_whole : {z : ℤ} → mag z < 2 ^ hbits w64 → to_z w64 (of_z w64 z) ≡ z
-held_whole h = to_z-of_z (record { sfits = h })
+held_whole h = to_z-of_z {w = w64} (record { sfits = h })
 
 -- as many numbers as there are
 pub all_stored : {A : Type 0} (vs l : List A) → length l ≡ length vs → sets l 0 vs ≡ vs

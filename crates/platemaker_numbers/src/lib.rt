@@ -1,5 +1,6 @@
 // Ledgers and measures in slices of numbers, and the version of the library, for the C interface.
 #![tactic(auto)]
+
 ghost use Rattle.std.specs.Prelude.{◌≡◌, length};
 ghost use Rattle.model.specs.Interface.{measures_size, measures_in, stats_size, stats_numbers, stats_in, slice_refusal};
 ghost use Rattle.model.specs.Interface.{version};

@@ -12,8 +12,8 @@ use mir.Facts.{to_z-of_z}
 use mir.Syntax.{w64}
 use mir.Val.{Fits, SFits}
 use Rattle.model.specs.Ledger.{count_of}
-use Rattle.platemaker_numbers.proofs.count_of.Statement.{statement}
-use Rattle.platemaker_numbers.proofs.count_of.Tie as tie
+use Rattle.platemaker_numbers.proofs.count_of.Goals as goal
+use Rattle.platemaker_numbers.proofs.count_of.Goals.{Else-x-lt0}
 
 below : (z : ℤ) → lt_z z (pos 0) ≡ true → 18446744073709551615 ≡ count_of z
 below (pos n) e = absurd (omega (arith, ltb-true n 0 e))
@@ -26,18 +26,17 @@ above (negsuc n) e f =
     let y : ◌≡◌ {A = ℕ} 0 1 = cc in
     absurd (omega arith)
 
-returns : tie.Need-returns
-returns c = below c.before.args.x (rw (to_z-of_z c.before.ranges.x) at c.if1.true)
+pub returns-then-x-lt0 : goal.returns-then-x-lt0
+returns-then-x-lt0 c = below c.args.x (rw (to_z-of_z c.ranges.x) at c.if-x-lt0.true)
 
 -- a number that is not below 0
-held : (c : tie.Else1) → let z = c.before.args.x in T (non_neg z) × Fits w64 (nat_abs z) × (nat_abs z ≡ count_of z)
-held c = above c.before.args.x (rw (to_z-of_z c.before.ranges.x) at c.if1.false) c.before.ranges.x
+held : (c : Else-x-lt0) → let z = c.args.x in T (non_neg z) × Fits w64 (nat_abs z) × (nat_abs z ≡ count_of z)
+held c = above c.args.x (rw (to_z-of_z c.ranges.x) at c.if-x-lt0.false) c.ranges.x
 
-cast-result : tie.Need-overflow-cast-result
-cast-result c = rw (to_z-of_z c.before.ranges.x) ((held c).0, (held c).1)
+pub overflow_cast-result : goal.overflow_cast-result
+overflow_cast-result c =
+    let here : Else-x-lt0 = search in rw (to_z-of_z c.ranges.x) ((held here).0, (held here).1)
 
-returns-2 : tie.Need-returns-2
-returns-2 c = rw (to_z-of_z c.before.ranges.x) (held c).2
-
-pub count-of-spec : {M : Type 1} → statement M
-count-of-spec = tie.close (tie.spec returns cast-result returns-2)
+pub returns : goal.returns
+returns c =
+    let here : Else-x-lt0 = search in rw (to_z-of_z c.ranges.x) (held here).2
