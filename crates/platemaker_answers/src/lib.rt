@@ -1,6 +1,7 @@
 // The answers without a ledger laid out for the C interface: each function answers the status, 0 or the refusal number,
 // and stores the rest behind pointers.
 #![tactic(auto)]
+
 ghost use Rattle.std.specs.Prelude.{◌≡◌, length};
 ghost use Rattle.model.specs.Calls.{filled, valued};
 ghost use Rattle.model.specs.Balance.{balanced};
