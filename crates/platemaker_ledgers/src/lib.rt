@@ -1,6 +1,7 @@
 // The answers that carry a ledger laid out for the C interface: each function answers the status, 0 or the refusal number,
 // and stores the rest behind pointers.
 #![tactic(auto)]
+
 ghost use Rattle.std.specs.Prelude.{◌≡◌, length};
 ghost use Rattle.model.specs.Calls.{started, attempted, scanned, converged};
 ghost use Rattle.model.specs.Interface.{stats_size, Lays, stats_behind, tried_behind, scan_behind, converge_behind};
