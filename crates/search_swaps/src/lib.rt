@@ -1,6 +1,7 @@
 // A swap scan of a judged plate whose kernel is c. A trial is decided by the table in a few operations; locked cells, and
 // cells where no partner can lower the squared error, are passed over. Its trials are counted where that is asked for.
 #![tactic(auto)]
+
 ghost use Rattle.std.specs.Prelude.{true, ◌≡◌, ℕ, ◌+◌, ◌^◌, ◌≤◌, ◌<◌, length, get_or};
 ghost use Rattle.model.specs.Basic.{pick};
 ghost use Rattle.model.specs.Error.{target_for, cells};

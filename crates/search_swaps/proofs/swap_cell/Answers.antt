@@ -4,7 +4,6 @@ use mathlib.Core.Bool.{true, true≢false, and-eq-true_iff}
 use mathlib.Core.Path.{◌≡◌, sym, ◌∙◌, ap, subst}
 use Prim.Native.Nat.{ℕ, ◌+◌, ◌-◌, ◌≤◌, ◌<◌}
 use native.Mathlib.Omega.{arith}
-use borrow.Author.Rules.{rules}
 use lib.ListN.{length, get_or}
 use Rattle.model.specs.declared.Cell.{Cell}
 use Rattle.model.specs.Change.{swap, lowers}
@@ -20,16 +19,16 @@ use Rattle.invariants.proofs.Plate.{ready_judged}
 use Rattle.invariants.proofs.Scanning.{attempt_advances}
 use Rattle.invariants.proofs.Trials.{swap_taken}
 use Rattle.search_swaps.proofs.Partner.{landed, stands, partner_on}
-use Rattle.search_swaps.proofs.swap_cell.Statement.{statement}
-use Rattle.search_swaps.proofs.swap_cell.Tie as tie
+use Rattle.search_swaps.proofs.swap_cell.Goals as goal
+use Rattle.search_swaps.proofs.swap_cell.Goals.{Start}
 
 -- what is known from the start
-module _ (s : tie.Start) where
+module _ (s : Start) where
   abbrev on : OnPlate s.args.measures s.args.at
-  on = s.requires.1.0.0
+  on = s.requires.on_plate.0
 
   abbrev held : HoldsOffsets s.args.measures.reach s.args.codes.now
-  held = s.pre.1.0.2
+  held = s.requires.on_plate.2
 
   abbrev target : Target
   target = target_for s.args.measures s.args.psf.now s.args.gray.now
@@ -42,7 +41,7 @@ module _ (s : tie.Start) where
   code = get_or s.args.codes.now s.args.found 0
 
 -- where the partner stands, and that its dot is unlike
-module _ (start : tie.Start) where
+module _ (start : Start) where
   abbrev row : ℕ
   row = start.args.at.row
 
@@ -50,13 +49,13 @@ module _ (start : tie.Start) where
   col = start.args.at.col
 
   short : start.args.found < length start.args.codes.now
-  short = start.pre.1.1.0
+  short = start.requires.found_in_bounds.0
 
   near : (row_of (code start) ≤ 12) × (column_of (code start) ≤ 12)
   near = (held start).near start.args.found short
 
   took : lowers_at (target start) start.args.dots.now (m start) (offset_of (code start)) ≡ true
-  took = start.pre.1.1.1
+  took = start.requires.found_in_bounds.1
 
   lowersAt-is : (suits (target start) start.args.dots.now (m start) (offset_of (code start)) ≡ true)
       × (lowers (target start) start.args.dots.now
@@ -75,7 +74,7 @@ module _ (start : tie.Start) where
 
   there : OnPlate start.args.measures to
   there =
-      partner_on (ready_judged start.pre.0) (on start) (row_of (code start)) (column_of (code start)) lands_there
+      partner_on (ready_judged start.requires.ready) (on start) (row_of (code start)) (column_of (code start)) lands_there
 
   inside : (6 ≤ row + row_of (code start)) × (6 ≤ col + column_of (code start))
   inside = (landed _ _ row col (on start).col_below (row_of (code start)) (column_of (code start)) lands_there).0
@@ -95,50 +94,47 @@ module _ (start : tie.Start) where
       (stands _ start.args.measures.height row col (on start).col_below (row_of (code start))
       (column_of (code start)) lands_there) suited.unlike
 
-shared-slice-read-code : tie.Need-shared-slice-read-code
-shared-slice-read-code c = let a : tie.Start = search in short a
+pub bounds-codes-found : goal.bounds-codes-found
+bounds-codes-found c = let a : Start = search in short a
 
-cast-t16 : tie.Need-overflow-cast-t16
-cast-t16 c = let a : tie.Start = search in record { fits = omega (arith, near a) }
+pub overflow_cast-to : goal.overflow_cast-to
+overflow_cast-to c = let a : Start = search in record { fits = omega (arith, near a) }
 
-add-t17 : tie.Need-overflow-add-t17
-add-t17 c =
-    let a : tie.Start = search in
-    let f = a.pre.0.later.plate.halftone in
+pub overflow_add-to : goal.overflow_add-to
+overflow_add-to c =
+    let a : Start = search in
+    let f = a.requires.ready.later.plate.halftone in
     record { fits = omega (arith, near a, (on a).row_below, f.high) }
 
-sub-t18 : tie.Need-overflow-sub-t18
-sub-t18 c = let a : tie.Start = search in (inside a).0
+pub overflow_sub-to : goal.overflow_sub-to
+overflow_sub-to c = let a : Start = search in (inside a).0
 
-cast-t20 : tie.Need-overflow-cast-t20
-cast-t20 c = let a : tie.Start = search in record { fits = omega (arith, near a) }
+pub overflow_cast-to-2 : goal.overflow_cast-to-2
+overflow_cast-to-2 c = let a : Start = search in record { fits = omega (arith, near a) }
 
-add-t21 : tie.Need-overflow-add-t21
-add-t21 c =
-    let a : tie.Start = search in
-    let f = a.pre.0.later.plate.halftone in
+pub overflow_add-to-2 : goal.overflow_add-to-2
+overflow_add-to-2 c =
+    let a : Start = search in
+    let f = a.requires.ready.later.plate.halftone in
     record { fits = omega (arith, near a, (on a).col_below, f.wide) }
 
-sub-t22 : tie.Need-overflow-sub-t22
-sub-t22 c = let a : tie.Start = search in (inside a).1
+pub overflow_sub-to-2 : goal.overflow_sub-to-2
+overflow_sub-to-2 c = let a : Start = search in (inside a).1
 
-swap-requires : tie.Need-swap-requires
-swap-requires c κs =
-    let a : tie.Start = search in (a.pre.0, (on a, there a, unlike a))
+pub swap-answer-requires : goal.swap-answer-requires
+swap-answer-requires c =
+    let a : Start = search in record {
+      ready = a.requires.ready;
+      on_plate = (on a, there a, unlike a);
+    }
 
-advance-requires : tie.Need-advance-requires
-advance-requires c κs = let s : tie.Start = search in s.pre.1.0.1
+pub advance-requires : goal.advance-requires
+advance-requires c = let s = c in s.requires.on_plate.1
 
-same_length : tie.Need-same-length
-same_length c = search rules
-
-same-length-2 : tie.Need-same-length-2
-same-length-2 c = search rules
-
-returns : tie.Need-returns
+pub returns : goal.returns
 returns c =
-    let a : tie.Start = search in
-    let tried : tie.After-swap = search in
+    let a : Start = search in
+    let tried = c in
     let g = a.args in
     let found = g.found in
     let taken =
@@ -146,22 +142,5 @@ returns c =
     (subst (λ n. found < n) (held a).long (short a)) ((held a).at found (short a)) (took a)
     (stands _ _ _ _ (on a).col_below (row_of (code a)) (column_of (code a)) (lands_there a)) in
     attempt_advances (target a) g.dots.now g.progress (cell_swap g.measures g.dots.now g.at (to a))
-    _ _ (entry_stats _ _ _ _ _ _ a.pre.0.later) (λ e. taken) (λ e. absurd (true≢false (sym (lower a) ∙ e))) _
-    c.advance.ensures tried.swap.ensures
-
-pub swap-cell-spec : {M : Type 1} → statement M
-swap-cell-spec =
-    tie.close
-    (tie.spec
-    shared-slice-read-code
-    cast-t16
-    add-t17
-    sub-t18
-    cast-t20
-    add-t21
-    sub-t22
-    swap-requires
-    advance-requires
-    same_length
-    same-length-2
-    returns)
+    _ _ (entry_stats _ _ _ _ _ _ a.requires.ready.later) (λ e. taken) (λ e. absurd (true≢false (sym (lower a) ∙ e))) _
+    c.advance.ensures tried.swap-answer.ensures
