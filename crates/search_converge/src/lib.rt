@@ -1,5 +1,6 @@
 // Settling of a judged plate whose kernel is c, by its two scans.
 #![tactic(auto)]
+
 ghost use Rattle.model.specs.Error.{target_for};
 ghost use Rattle.model.specs.Reference.{reference};
 ghost use Rattle.model.specs.Scan.{converge};
