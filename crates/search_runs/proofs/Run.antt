@@ -1,11 +1,9 @@
 -- Runs of cells where nothing is accepted, as the loops over them go.
---   raised             a flag that is raised stays raised
 --   worth_held         what an offset is worth, as a local holds it
 --   sum_fits, unlower  the sum of a trial, of locals: it fits, and where it is not below 0 the trial fails
 --   offset_clear       a run that is clear from cell to cell is clear at that offset
-use mathlib.Core.Bool.{Bool, true, false, not, and-false, true≢false}
+use mathlib.Core.Bool.{false, not, and-false}
 use mathlib.Core.List.{List}
-use mathlib.Core.Logic.{◌⊎◌, inl, inr}
 use mathlib.Core.Path.{◌≡◌, sym, ◌∙◌, ap}
 use Prim.Native.Nat.{ℕ, ◌+◌, ◌*◌, ◌-◌, ◌≤◌}
 use native.Mathlib.Nat.{sub-add_cancel, add-mul}
@@ -22,12 +20,6 @@ use Rattle.model.specs.Error.{cell_at, most_filtered}
 use Rattle.invariants.specs.Partners.{row_of, column_of}
 use Rattle.invariants.specs.Window.{Small, most_worth}
 use Rattle.search_runs.specs.Run.{Fails, SwapsClear, OffsetClear}
-
--- a flag that is raised stays raised: as long as it is down, what held before holds, and one cell more
-pub raised : {Yes No Before After : Type 0} {old new : Bool} → (Yes × (new ≡ true)) ⊎ (No × (new ≡ old))
-    → (old ≡ false → Before) → (No → Before → After) → new ≡ false → After
-raised (inl (y, e)) held more f = absurd (true≢false (sym e ∙ f))
-raised (inr (n, e)) held more f = more n (held (sym e ∙ f))
 
 -- ---- the sum of a trial, as the locals hold its terms
 pub worth_held : {l : List ℤ} → Small most_worth l → (q : ℕ)
