@@ -5,7 +5,6 @@ use Prim.Native.Nat.{◌+◌}
 use native.Mathlib.Numerals.{add-one}
 use native.Mathlib.Omega.{arith}
 use lib.ListN.{length}
-use Rattle.std.proofs.lemmas.Grind.{common_steps}
 use Rattle.model.specs.Basic.{one_if}
 use Rattle.model.specs.Lock.{locked}
 use Rattle.model.proofs.Tables.{total_tabulate}
@@ -43,7 +42,7 @@ loop-i-preserved c =
     let step : open-cells gray (i + 1) ≡ open-cells gray i + one_if (not (locked gray i)) =
     ap (open-cells gray) (add-one i) ∙ total_tabulate i _ in
     let told : c.is_locked.result ≡ locked gray i = c.is_locked.ensures in
-    (omega arith, grind (arith, common_steps), grind (arith, common_steps, step, told, open_is, shut_is))
+    (omega arith, grind arith, grind (arith, step, told, open_is, shut_is))
 
 pub overflow_cast-result : goal.overflow_cast-result
 overflow_cast-result c = omega arith
