@@ -1,6 +1,7 @@
 // The public calls that change a plate: attempts, scans and settling. Each judges all that it is handed, once; then the
 // table decides, and a change is made only where it lowers the squared error. A refusal changes nothing.
 #![tactic(auto)]
+
 ghost use Rattle.std.specs.Prelude.{◌≡◌};
 ghost use Rattle.model.specs.Scan.{result_of};
 ghost use Rattle.model.specs.State.{later_refusal};
