@@ -51,12 +51,11 @@ slice_bounds-correlate-end c =
 pub correlate-requires : goal.correlate-requires
 correlate-requires c =
     let w = (goal.at.correlate-requires c).After-widen in
-    let known = c in
     let s = c in
     let psf = s.args.psf.now in
     let f = s.requires.0 in
     let r = s.args.radius in
-    let small : Small 255 (map pos psf) = small_bytes psf (λ i. omega (arith, known.shared_slice_known-1.given i)) in record {
+    let small : Small 255 (map pos psf) = small_bytes psf (λ i. omega (arith, c.type_inv.psf i)) in record {
       radius_bound = subst (λ (p : List ℤ). (r ≤ 3) × (length p ≡ (2 * r + 1) * (2 * r + 1)) × Small 255 p)
           (sym (part-is w psf w.widen.ensures _)) (f.near, length-map psf pos ∙ f.square, small);
       out_len = s.requires.1;

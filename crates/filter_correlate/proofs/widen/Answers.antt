@@ -18,7 +18,7 @@ bounds-bytes-i c = omega arith
 pub overflow_cast-out : goal.overflow_cast-out
 overflow_cast-out c =
     let l = c in
-    record { sfits = omega (arith, c.shared_slice_known-1.given l.loop-i.i) }
+    record { sfits = omega (arith, c.type_inv.bytes l.loop-i.i) }
 
 pub offset_bounds-out-i : goal.offset_bounds-out-i
 offset_bounds-out-i c = omega arith
@@ -38,7 +38,7 @@ pub loop-i-preserved : goal.loop-i-preserved
 loop-i-preserved c =
     let l = c in
     let bytes = l.args.bytes.now in
-    let low = c.shared_slice_known-1.given l.loop-i.i in
+    let low = c.type_inv.bytes l.loop-i.i in
     let byte = of_cast w32 (get_or bytes l.loop-i.i 0) {k = 255} (omega (arith, low)) (lit< tt) in
     (omega arith, fill_next l.loop-i.invariant.1 (omega arith) byte.value)
 

@@ -48,7 +48,7 @@ bounds-psf-k c = omega arith
 pub overflow_cast-amount : goal.overflow_cast-amount
 overflow_cast-amount c =
     let l = c in
-    record { sfits = omega (arith, c.shared_slice_known-in-loop-k-1.given l.loop-k.k) }
+    record { sfits = omega (arith, c.type_inv.psf l.loop-k.k) }
 
 -- in a turn: the entry of the psf as the call takes it
 entry : (psf : List ℕ) (k : ℕ) → get_or psf k 0 ≤ 255 → Holds w32 (get_or psf k 0) (pos (get_or psf k 0)) 255
@@ -58,7 +58,7 @@ pub add_rows-requires : goal.add_rows-requires
 add_rows-requires c =
     let a = c.args in
     let k = c.loop-k.k in
-    let low : get_or a.psf.now k 0 ≤ 255 = omega (arith, c.shared_slice_known-in-loop-k-1.given k) in
+    let low : get_or a.psf.now k 0 ≤ 255 = omega (arith, c.type_inv.psf k) in
     let inv = c.loop-k.invariant in
     let wide = c.requires.width_nonzero.0 in
     let fits = c.requires.width_nonzero.1 in
@@ -86,7 +86,7 @@ loop-k-smaller c = omega arith
 pub loop-k-preserved : goal.loop-k-preserved
 loop-k-preserved c =
     let a = c.args in
-    let low : get_or a.psf.now c.loop-k.k 0 ≤ 255 = omega (arith, c.shared_slice_known-in-loop-k-1.given c.loop-k.k) in (
+    let low : get_or a.psf.now c.loop-k.k 0 ≤ 255 = omega (arith, c.type_inv.psf c.loop-k.k) in (
       omega arith,
       pass_next a.width a.height a.radius a.psf.now a.from a.to a.c.now _ c.loop-k.k
           c.requires.width_nonzero.0 c.requires.lies.1 c.loop-k.invariant.1 (entry a.psf.now c.loop-k.k low).value
