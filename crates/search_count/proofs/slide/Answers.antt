@@ -32,12 +32,9 @@ module _ (c : After-mark) where
   abbrev l : After-mark
   l = c
 
-  abbrev bytes : After-mark
-  bytes = c
-
   byte : (p : ℕ) → get_or s.args.columns.now p 0 < 256
-  unfolding s bytes
-  byte p = omega (arith, bytes.shared_slice_known-3-1.given p)
+  unfolding s
+  byte p = omega (arith, c.type_inv.columns p)
 
   -- the sum up to a cell
   abbrev up_to : ℕ → ℕ

@@ -17,18 +17,18 @@ bounds-codes-k c = omega arith
 pub overflow_cast-to : goal.overflow_cast-to
 overflow_cast-to c =
     let l = c in
-    record { fits = omega (arith, c.shared_slice_known-in-loop-k-1.given l.loop-k.k) }
+    record { fits = omega (arith, c.type_inv.codes l.loop-k.k) }
 
 pub overflow_cast-to-in-loop-k : goal.overflow_cast-to-in-loop-k
 overflow_cast-to-in-loop-k c =
     let l = c in
-    record { fits = omega (arith, c.shared_slice_known-in-loop-k-1.given l.loop-k.k) }
+    record { fits = omega (arith, c.type_inv.codes l.loop-k.k) }
 
 pub between-requires : goal.between-requires
 between-requires c =
     let s = c in
     let l = c in
-    let byte = c.shared_slice_known-in-loop-k-1.given l.loop-k.k in record {
+    let byte = c.type_inv.codes l.loop-k.k in record {
       holds_square = s.requires.0;
       row_bound = (omega arith, omega arith, omega (arith, byte), omega (arith, byte));
     }

@@ -45,12 +45,12 @@ bounds-codes-j c = omega arith
 pub overflow_cast-place : goal.overflow_cast-place
 overflow_cast-place c =
     let l = c in
-    record { fits = omega (arith, c.shared_slice_known-in-loop-j-1.given (l.loop-j.j - 1)) }
+    record { fits = omega (arith, c.type_inv.codes (l.loop-j.j - 1)) }
 
 pub overflow_mul-place : goal.overflow_mul-place
 overflow_mul-place c =
     let l = c in
-    factors_fit 15 256 (omega (arith, c.shared_slice_known-in-loop-j-1.given (l.loop-j.j - 1))) (omega arith) tt
+    factors_fit 15 256 (omega (arith, c.type_inv.codes (l.loop-j.j - 1))) (omega arith) tt
 
 -- the place of the first partner, 6 rows and 6 columns further on, is small
 place-small : (s : Start) (m j : ℕ) → let code = get_or s.args.codes.now j 0 in
@@ -67,20 +67,20 @@ overflow_add-place c =
     let s : Start = search in
     let l = c in
     let p = c in
-    let byte = c.shared_slice_known-in-loop-j-1.given (l.loop-j.j - 1) in
+    let byte = c.type_inv.codes (l.loop-j.j - 1) in
     record { fits = omega (arith, place-small s _ (l.loop-j.j - 1) p.index-m.ensures (omega arith)) }
 
 pub overflow_cast-place-in-loop-j : goal.overflow_cast-place-in-loop-j
 overflow_cast-place-in-loop-j c =
     let l = c in
-    record { fits = omega (arith, c.shared_slice_known-in-loop-j-1.given (l.loop-j.j - 1)) }
+    record { fits = omega (arith, c.type_inv.codes (l.loop-j.j - 1)) }
 
 pub overflow_add-place-in-loop-j : goal.overflow_add-place-in-loop-j
 overflow_add-place-in-loop-j c =
     let s : Start = search in
     let l = c in
     let p = c in
-    let byte = c.shared_slice_known-in-loop-j-1.given (l.loop-j.j - 1) in
+    let byte = c.type_inv.codes (l.loop-j.j - 1) in
     record { fits = omega (arith, place-small s _ (l.loop-j.j - 1) p.index-m.ensures (omega arith)) }
 
 pub returns-then-place-back : goal.returns-then-place-back
@@ -91,8 +91,7 @@ overflow_add-to c =
     let s : Start = search in
     let l = c in
     let p = c in
-    let b = c in
-    let byte = b.shared_slice_known-in-loop-j-1.given (l.loop-j.j - 1) in
+    let byte = c.type_inv.codes (l.loop-j.j - 1) in
     record { fits = omega (arith, place-small s _ (l.loop-j.j - 1) p.index-m.ensures (omega arith)) }
 
 pub returns-then-dots-to : goal.returns-then-dots-to
