@@ -1,5 +1,6 @@
 // Whether a plate that a start takes is at rest: a toggle scan and a swap scan of a copy accept nothing.
 #![tactic(auto)]
+
 ghost use Rattle.std.specs.Prelude.{◌≡◌};
 ghost use Rattle.model.specs.Error.{target_for};
 ghost use Rattle.model.specs.FiledCalls.{rests};

@@ -1,6 +1,7 @@
 // The answer of the check laid out for the C interface: the status, 0 or the refusal number, the verdict in numbers,
 // and the byte offset of a refusal.
 #![tactic(auto)]
+
 ghost use Rattle.std.specs.Prelude.{◌≡◌, pos, length};
 ghost use Rattle.model.specs.Basic.{pick};
 ghost use Rattle.model.specs.Sheet.{InRange};
