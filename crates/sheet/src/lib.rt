@@ -1,5 +1,6 @@
 // The public calls that read and write a sheet.
 #![tactic(auto)]
+
 ghost use Rattle.model.specs.Calls.{Ends};
 ghost use Rattle.model.specs.SheetCalls.{reading_of, sheet_buffers, read_call, writing_of, write_call};
 
