@@ -1,6 +1,7 @@
 // The public calls that read and write PBM and PGM files, and count the dots of each row. Everything is judged before
 // anything is stored.
 #![tactic(auto)]
+
 ghost use Rattle.model.specs.Calls.{Ends, filled};
 ghost use Rattle.model.specs.PictureCalls.{picture_of, written_of, read_pbm_call, read_pgm_call, write_pbm_call, write_pgm_call};
 ghost use Rattle.model.specs.PictureCalls.{count_rows_call};
