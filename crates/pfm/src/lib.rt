@@ -1,5 +1,6 @@
 // The public call that reads a gray PFM (02, C-16). Everything is judged before anything is stored.
 #![tactic(auto)]
+
 ghost use Rattle.std.specs.Prelude.{◌≡◌, ◌+◌, ◌*◌, ◌≤◌, length, drop};
 ghost use Rattle.model.specs.Calls.{Ends};
 ghost use Rattle.model.specs.Netpbm.{InSize, cells_in};
