@@ -1,6 +1,7 @@
 // Reading what follows line 2 of a filed sheet: the blocks of a sheet, then the two lines with the six figures. It is
 // judged whole before anything is stored.
 #![tactic(auto)]
+
 ghost use Rattle.std.specs.Prelude.{[], ◌≡◌};
 ghost use Rattle.model.specs.Psf.{total};
 ghost use Rattle.model.specs.Sheet.{InRange};
