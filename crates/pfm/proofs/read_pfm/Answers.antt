@@ -9,16 +9,15 @@ returns-then-number-ne0 c =
     let found = c in
     let judged = c in
     pfm_refused s.args.file.now s.args.gray.now _ found.read_lines-lines.ensures judged.judge_lines-number.ensures
-    (λ z. omega (arith, z, c.if-number-ne0.true))
+    (λ z. omega (arith, z))
 
 pub read_samples-requires : goal.read_samples-requires
 read_samples-requires c =
     let s = c in
     let found = c in
     let judged = c in
-    let passed = c in
     let (fits, room) = lines_fit s.args.file.now s.args.gray.now _ found.read_lines-lines.ensures
-    judged.judge_lines-number.ensures (omega (arith, passed.if-number-ne0.false)) in record {
+    judged.judge_lines-number.ensures (omega arith) in record {
       in_size = lines_good s.args.file.now s.args.gray.now _ found.read_lines-lines.ensures fits.good;
       file_len = (fits.exact, room);
     }
@@ -28,10 +27,9 @@ returns c =
     let s = c in
     let found = c in
     let judged = c in
-    let passed = c in
     let looked = c in
     pfm_looked s.args.file.now s.args.gray.now _ found.read_lines-lines.ensures judged.judge_lines-number.ensures
-    passed.if-number-ne0.false looked.read_samples.ensures
+    (omega arith) looked.read_samples.ensures
 
 pub judge_lines-number-requires : goal.judge_lines-number-requires
 judge_lines-number-requires c =
