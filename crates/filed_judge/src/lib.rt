@@ -1,5 +1,6 @@
 // The verdicts of a filed sheet that was read: the figure against the squared error, the ledger against the dots, rest.
 #![tactic(auto)]
+
 ghost use Rattle.std.specs.Prelude.{◌≡◌, ◌≤◌, pos, ◌+ℤ◌, ◌-ℤ◌, length};
 ghost use Rattle.model.specs.Basic.{AtMost};
 ghost use Rattle.model.specs.Error.{target_for, filtered_errors, most_cells};
