@@ -1,5 +1,6 @@
 // The public call that checks a filed sheet: does the filed figure belong to the filed dots?
 #![tactic(auto)]
+
 ghost use Rattle.std.specs.Prelude.{◌≡◌, ◌≤◌, length};
 ghost use Rattle.std.proofs.lemmas.List.Edits.{sets};
 ghost use Rattle.model.specs.Basic.{AtMost};

@@ -1,5 +1,6 @@
 // What the program `settle` does between its input and its output.
 #![tactic(auto)]
+
 ghost use Rattle.std.specs.Prelude.{◌≡◌, ◌≤◌, pos, length, take, replicate};
 ghost use Rattle.model.specs.Calls.{result as answered, buffers};
 ghost use Rattle.model.specs.Sheet.{entries_of, cells_of, InRange};
