@@ -12,7 +12,6 @@ use lib.ListN.{length, take, replicate}
 use lib.Seq.{length-take-le}
 use Rattle.model.specs.declared.Measures.{Measures}
 use Rattle.model.specs.declared.Reading.{Reading}
-use Rattle.model.specs.declared.Reading.TheVariants as Reading
 use Rattle.model.specs.Basic.{AtMost}
 use Rattle.model.specs.Calls.{Reply, Outcome, Ends}
 use Rattle.model.specs.Sheet.{entries_of, cells_of, sheet_text, InRange}

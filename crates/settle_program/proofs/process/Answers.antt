@@ -32,7 +32,8 @@ slice_bounds-put_started-end-5 c =
 pub put_started-requires : goal.put_started-requires
 put_started-requires c =
     let s = c in
-    let ((ranged, few, room), held) = s.requires in
+    let (ranged, few, room) = s.requires.in_range in
+    let held = s.requires.m_in_bounds in
     record {
       in_range = ranged;
       shaped =

@@ -21,4 +21,4 @@ returns-in-Refused c =
     let known = c in
     let put = c in
     prints_on (λ r b. converged_text s.args.m s.args.psf.now s.args.gray.now r b.dots)
-    called.converge-answer.ensures (ap converged known.in-Refused.is) put.Put-refused.ensures
+    called.converge-answer.ensures (ap converged known.in-Refused.is) put.put_refused.ensures

@@ -2,38 +2,32 @@
 use Prim.Native.Nat.{◌≤◌}
 use native.Mathlib.Omega.{arith}
 use lib.ListN.{length}
+use Rattle.model.specs.Basic.{AtMost}
 use Rattle.model.specs.Sheet.{sheet_text}
 use Rattle.model.specs.SheetCalls.{written_sheet}
 use Rattle.model.proofs.Puts.{puts_then, front_length}
 use Rattle.settle_program.proofs.Texts.{sheet_most}
 use Rattle.settle_program.proofs.put_result.Goals as goal
-use Rattle.settle_program.proofs.put_result.Goals.{After-slice_known-1, Start}
+use Rattle.settle_program.proofs.put_result.Goals.{Start}
 
 -- how long the sheet is at most
-most : (c : After-slice_known-1) → let s : Start = search in let a = s.args in
-    length (sheet_text (written_sheet a.m a.psf.now a.gray.now a.dots.now)) ≤ 33024
-most c =
-    let s = c in
-    let psf = c in
-    let gray = c in
-    let dots = c in
-    sheet_most s.requires
-    (record { each = λ i. omega (arith, psf.shared_slice_known-1.given i) })
-    (record { each = λ i. omega (arith, gray.shared_slice_known-2-1.given i) })
-    (record { each = λ i. omega (arith, dots.shared_slice_known-3-1.given i) })
+most : (s : Start) → let a = s.args in
+    AtMost 255 a.psf.now → AtMost 255 a.gray.now → AtMost 255 a.dots.now
+    → length (sheet_text (written_sheet a.m a.psf.now a.gray.now a.dots.now)) ≤ 33024
+most s = sheet_most s.requires
 
 pub put_sheet-end-requires : goal.put_sheet-end-requires
 put_sheet-end-requires c =
     let s = c in record {
       in_range = (s.requires.in_range, s.requires.shaped);
-      dots_in_bounds = omega (arith, most search, s.requires.room);
+      dots_in_bounds = omega (arith, most (search) (record { each = λ i. omega (arith, c.type_inv.psf i) }) (record { each = λ i. omega (arith, c.type_inv.gray i) }) (record { each = λ i. omega (arith, c.type_inv.dots i) }), s.requires.room);
     }
 
 pub put_stats-requires : goal.put_stats-requires
 put_stats-requires c =
     let s = c in
     let sheet = c in
-    omega (arith, most search, front_length sheet.put_sheet-end.ensures, sheet.put_sheet-end.auto.out, s.requires.room)
+    omega (arith, most (search) (record { each = λ i. omega (arith, c.type_inv.psf i) }) (record { each = λ i. omega (arith, c.type_inv.gray i) }) (record { each = λ i. omega (arith, c.type_inv.dots i) }), front_length sheet.put_sheet-end.ensures, sheet.put_sheet-end.auto.out, s.requires.room)
 
 pub returns : goal.returns
 returns c =
@@ -42,5 +36,5 @@ returns c =
     let (figures, few) = stats.put_stats.ensures in
     record {
       put = puts_then sheet.put_sheet-end.ensures figures;
-      most = omega (arith, most search, front_length sheet.put_sheet-end.ensures, few);
+      most = omega (arith, most (search) (record { each = λ i. omega (arith, c.type_inv.psf i) }) (record { each = λ i. omega (arith, c.type_inv.gray i) }) (record { each = λ i. omega (arith, c.type_inv.dots i) }), front_length sheet.put_sheet-end.ensures, few);
     }

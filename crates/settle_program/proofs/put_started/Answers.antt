@@ -23,4 +23,4 @@ returns-in-Refused c =
     let known = c in
     let put = c in
     prints_on (started_text s.args.m s.args.psf.now s.args.gray.now) called.start-answer.ensures.ends
-    (ap started known.in-Refused.is) put.Put-refused.ensures
+    (ap started known.in-Refused.is) put.put_refused.ensures
