@@ -2,6 +2,7 @@
 // the autocorrelation and at a start. Then numbers as they are written (C-13), with the bytes before and after them. The
 // file stdout beside src/ is what must be printed.
 #![tactic(auto)]
+
 ghost use Rattle.std.specs.Prelude.{◌≤◌, length};
 
 use model::{Filled, Measures, Started};

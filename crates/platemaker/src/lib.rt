@@ -2,6 +2,7 @@
 // proved function and lays its answer out in numbers: the status, which is 0 or the refusal number, and behind the
 // pointers the rest. A refusal changes nothing but, of a sheet, filed or not, and of a sample of a PFM, the byte offset.
 #![tactic(auto)]
+
 ghost use Rattle.std.specs.Prelude.{◌≡◌};
 ghost use Rattle.model.specs.Basic.{AtMost};
 ghost use Rattle.model.specs.Calls.{buffers, autocorrelation_call, filtered_error_call, squared_error_call};
