@@ -5,8 +5,7 @@
 
 static const char help[] =
     "plate settle [-p PSF] [-q REACH] [-s START] [-o OUT] [--sheet] [--figures FILE] [IN]\n"
-    "    makes a plate of dots from a PGM, a gray PFM or a sheet.\n"
-    "    What is not said is as the sheet has it, or the default.\n"
+    "    makes a plate of dots from a PGM or a sheet. What is not said is as the sheet has it, or the default.\n"
     "    Gray 0 (white) stays bare and gray 255 (black) stays solid, as paper and lettering.\n"
     "    -p PSF          the spread: a ready one (below), or a file of 1, 9, 25 or 49 numbers\n"
     "    -q REACH        how far a dot may be swapped, 0 to 6\n"
@@ -29,8 +28,8 @@ static int32_t table[PM_MAX_CELLS];
 struct pm_plate plate = {.gray = gray, .dots = dots, .table = table, .room = PM_MAX_CELLS};
 
 static enum status print_help(void) {
-    printf("%sFor a PGM or a PFM, -q %d and -s %d are the defaults. The ready psfs are, the default first:", help,
-           DEFAULT_REACH, DEFAULT_START);
+    printf("%sFor a PGM, -q %d and -s %d are the defaults. The ready psfs are, the default first:", help, DEFAULT_REACH,
+           DEFAULT_START);
     for (const struct psf *psf = ready_psfs; psf->name != NULL; psf++) printf(" %s", psf->name);
     return write_file("-", "\n", 1);
 }

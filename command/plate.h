@@ -45,9 +45,6 @@ int begins(const struct input *input, size_t offset, const char *text);
 enum status read_sheet(const struct input *input); /* a sheet with dots, which may be filed, into the plate */
 enum status write_file(const char *name, const void *bytes, size_t length); /* NULL is standard error */
 
-/* pfm.c: the gray of a PFM, into the plate */
-enum status read_pfm(const struct input *input);
-
 /* main.c: the name of the one file there may be after the options; or each of the files, and the worst status */
 enum status only_operand(int count, char **words, const char **name);
 enum status each_file(int count, char **words, enum status (*work)(const char *name));

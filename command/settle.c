@@ -63,14 +63,13 @@ static void set_psf(const struct psf *psf) {
     memcpy(plate.psf, psf->entries, PM_MAX_PSF);
 }
 
-/* a sheet has all that there is to set; a PGM and a PFM have gray, and the rest is the default */
+/* a sheet has all that there is to set; a PGM has gray, and the rest is the default */
 static enum status read_gray(const struct input *input) {
     size_t *measures = plate.measures, offset = 0;
     if (begins(input, 0, "P4")) return tell(DIFFERS, "%s: refused 14: a PBM has dots and no gray", input->name);
     measures[PM_MEASURE_REACH] = DEFAULT_REACH;
     measures[PM_MEASURE_START] = DEFAULT_START;
     set_psf(ready_psfs);
-    if (begins(input, 0, "Pf") || begins(input, 0, "PF")) return read_pfm(input);
     uint32_t number = begins(input, 0, "P")
         ? pm_read_pgm(input->bytes, input->length, plate.gray, plate.room, &measures[PM_MEASURE_WIDTH],
                       &measures[PM_MEASURE_HEIGHT])

@@ -10,7 +10,6 @@ static char drawn[2 * PM_MAX_CELLS];
 
 static enum status read_dots(const struct input *input) {
     if (begins(input, 0, "P5")) return tell(DIFFERS, "%s: a PGM has gray and no dots: settle it first", input->name);
-    if (begins(input, 0, "Pf")) return tell(DIFFERS, "%s: a PFM has gray and no dots: settle it first", input->name);
     if (!begins(input, 0, "P")) return read_sheet(input);
     uint32_t number = pm_read_pbm(input->bytes, input->length, plate.dots, plate.room,
                                   &plate.measures[PM_MEASURE_WIDTH], &plate.measures[PM_MEASURE_HEIGHT]);
