@@ -82,6 +82,7 @@ uninstall:
 # proves and builds the program `settle` and the command `plate`, with a line for each crate as it is proved; checks what
 # `settle` prints of the sheet of a small relief, and shows the plate that `plate` makes of it
 example: target/bin/settle target/bin/plate
+	@echo 'settle is proved and plate is built: the plate of examples/knolls.sheet'
 	@target/bin/settle <examples/knolls.sheet | target/bin/plate check
 	@target/bin/plate settle -o target/knolls.pbm examples/knolls.sheet
 	@target/bin/plate show target/knolls.pbm
