@@ -79,8 +79,8 @@ uninstall:
 		"$(to)/lib/pkgconfig/platemaker.pc" "$(to)/share/man/man1/plate.1" "$(to)/share/platemaker/platemaker.py"
 	@rmdir "$(to)/share/platemaker" 2>/dev/null || true
 
-# proves and builds the program `settle` and the command `plate`, with a line for each crate as it is proved; checks what
-# `settle` prints of the sheet of a small relief, and shows the plate that `plate` makes of it
+# proves and builds the program `settle` and the command `plate`; checks what `settle` prints of the sheet of a small relief, and
+# shows the plate that `plate` makes of it
 example: target/bin/settle target/bin/plate
 	@echo 'settle is proved and plate is built: the plate of examples/knolls.sheet'
 	@target/bin/settle <examples/knolls.sheet | target/bin/plate check
