@@ -31,13 +31,14 @@ target/lib/libplatemaker.a: $(proved)
 	@mkdir -p target/lib
 	@cp $(proved) $@
 
+# the names by which it is found are copies here, since `rt ci` takes no link in a checkout; `make install` makes links
 $(shared): $(proved)
 	@mkdir -p target/lib
 	@echo '{ global: pm_*; local: *; };' >target/lib/exports
 	$(CC) -shared $(LDFLAGS) -Wl,-soname,$(soname) -Wl,--version-script,target/lib/exports -Wl,-z,defs -Wl,-z,text \
 		-Wl,-z,noexecstack -Wl,--whole-archive $(proved) -Wl,--no-whole-archive -o $@
-	@ln -sf libplatemaker.so.$(version) target/lib/$(soname)
-	@ln -sf $(soname) target/lib/libplatemaker.so
+	@cp -f $@ target/lib/$(soname)
+	@cp -f $@ target/lib/libplatemaker.so
 
 # written each time, since PREFIX may be another one
 target/lib/platemaker.pc: always
