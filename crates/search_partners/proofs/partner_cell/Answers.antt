@@ -45,11 +45,7 @@ returns-then-width-col c =
     (less-off x.result _ a.width x.ensures.value (omega arith) (omega (arith, c.if-width-col.true, s.requires.2)))
 
 pub index-requires : goal.index-requires
-index-requires c =
-    let s = c in
-    let low = c in
-    let inside = c in
-    (omega (arith, low.if-height-row.false, s.requires.3), inside.if-width-col.false, s.requires.2)
+index-requires c = (omega (arith, c.if-height-row.false, c.requires.3), omega arith, c.requires.2)
 
 pub returns : goal.returns
 returns c =

@@ -1,6 +1,7 @@
 -- `text_reader::step_to` meets its contract: the item is read off the tests of the first byte.
 use mathlib.Core.Path.{◌≡◌, sym, ◌∙◌}
 use Prim.Native.Nat.{◌+◌}
+use native.Mathlib.Omega.{arith}
 use borrow.Author.Rules.{rules}
 use borrow.Author.Tests.{eq-eqb, ne_eqb, lt-ltb, le-ltb}
 use lib.Dec.{eqb}
@@ -53,9 +54,7 @@ returns-then-is_letter c =
 pub returns-then-at-end : goal.returns-then-at-end
 returns-then-at-end c =
     let run = (goal.at.returns-then-at-end c).After-digit_run-run in
-    let zero = c in
-    let long = c in
-    c.step_of-then-at-end.ensures ∙ sym (number_at run ∙ number_long _ _ _ zero.if-b-eq48.true (lt-ltb _ _ long.if-at-end.true))
+    c.step_of-then-at-end.ensures ∙ sym (number_at run ∙ number_long _ _ _ c.if-b-eq48.true (lt-ltb _ _ (omega arith)))
 
 pub returns-then-is_digit : goal.returns-then-is_digit
 returns-then-is_digit c =
