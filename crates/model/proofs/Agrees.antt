@@ -18,7 +18,7 @@ use borrow.Author.Tests.{ltb-true, leb-true, eqb-true}
 use lib.Dec.{leb, ltb, eqb}
 use lib.ListN.{length, take, drop, get_or, replicate, length-append, length-replicate}
 use lib.Seq.{take_at, drop-cons, drop-drop, drop-append_seam}
-use Rattle.model.specs.declared.Field.{Field}
+use Rattle.model.specs.Format.{Field}
 use Rattle.model.specs.declared.Item.{Item}
 use Rattle.model.specs.declared.Item.TheVariants.{Word, Number, LineEnd, Other}
 use Rattle.model.specs.Basic.{pick}

@@ -12,7 +12,7 @@ use native.Mathlib.Omega.{arith}
 use borrow.Author.Tests.{ltb-false, le-ltb, lt-leb, ne_eqb, eqb-true}
 use lib.Dec.{leb, ltb}
 use lib.ListN.{length}
-use Rattle.model.specs.declared.Found.{Found}
+use Rattle.model.specs.PictureHeader.{Found}
 use Rattle.model.specs.Basic.{All}
 use Rattle.model.specs.Text.{is_digit, cap_to, grow_to}
 use Rattle.model.specs.Netpbm.{is_space, opens_comment, decimal_from}

@@ -16,7 +16,7 @@ use lib.Dec.{ltb, eqb}
 use lib.IntN.{ℤ, pos, nat_abs}
 use lib.ListN.{length}
 use Rattle.model.specs.declared.FiledFigures.{FiledFigures}
-use Rattle.model.specs.declared.Verdict.{Verdict}
+use Rattle.model.specs.FiledCalls.{Verdict}
 use Rattle.model.specs.Basic.{pick}
 use Rattle.model.specs.Psf.{total}
 use Rattle.model.specs.Error.{squared_error}

@@ -13,8 +13,8 @@ use Rattle.algebra.proofs.Solver.{ring!, reify}
 use Rattle.algebra.proofs.Order.{ordℤ}
 use Rattle.model.specs.declared.FiledFigures.{FiledFigures}
 use Rattle.model.specs.declared.Measures.{Measures}
-use Rattle.model.specs.declared.Resting.TheVariants.{Rests}
-use Rattle.model.specs.declared.Verdict.{Verdict}
+use Rattle.model.specs.FiledCalls.{Rests}
+use Rattle.model.specs.FiledCalls.{Verdict}
 use Rattle.model.specs.Basic.{AtMost}
 use Rattle.model.specs.Error.{Target, filtered_errors, squared_error, most_squared}
 use Rattle.model.specs.Lock.{LocksHold}

@@ -12,8 +12,8 @@ use borrow.Author.Tests.{eqb-true, eq-eqb, not-true}
 use lib.Dec.{eqb, lit≤}
 use lib.IntN.{pos}
 use Rattle.model.specs.declared.FiledFigures.{FiledFigures}
-use Rattle.model.specs.declared.Resting.{Resting}
-use Rattle.model.specs.declared.Resting.TheVariants.{Rests, Lowers, Unstarted}
+use Rattle.model.specs.FiledCalls.{Resting}
+use Rattle.model.specs.FiledCalls.{Rests, Lowers, Unstarted}
 use Rattle.model.specs.Basic.{Exactly}
 use Rattle.model.specs.Psf.{total}
 use Rattle.model.specs.Error.{Target, cells, filtered_errors, squared_error, Halftone}

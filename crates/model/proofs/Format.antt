@@ -18,11 +18,11 @@ use native.Mathlib.Omega.{arith}
 use borrow.Author.Tests.{leb-true, eq-eqb, ne_eqb}
 use lib.Dec.{leb, eqb}
 use lib.ListN.{length, drop}
-use Rattle.model.specs.declared.Field.{Field}
+use Rattle.model.specs.Format.{Field}
 use Rattle.model.specs.declared.Item.{Item}
 use Rattle.model.specs.declared.Item.TheVariants.{Word, Number, LineEnd, Other}
 use Rattle.model.specs.declared.Measures.{Measures}
-use Rattle.model.specs.declared.Place.{Place}
+use Rattle.model.specs.Format.{Place}
 use Rattle.model.specs.Text.{is_digit, digits, cap_to, NoDigit, step, step_to}
 use Rattle.model.specs.Sheet.{side_of, entries_of, cells_of, end_of}
 use Rattle.model.specs.Format.{Part, fixed, number, grid, head_from, psf_block, gray_block, dots_block, body, text_of}

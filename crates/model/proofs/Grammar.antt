@@ -14,7 +14,7 @@ use borrow.Author.Tests.{leb-true, leb-false}
 use lib.Dec.{leb}
 use lib.ListN.{length, drop, length-drop, drop_of_length-le}
 use Rattle.model.specs.declared.Measures.{Measures}
-use Rattle.model.specs.declared.Place.{Place}
+use Rattle.model.specs.Format.{Place}
 use Rattle.model.specs.Sheet.{values_of}
 use Rattle.model.specs.Format.{text_of, Parsed, parse, measures_of, head_by}
 use Rattle.model.specs.Grammar.{numbers, Grammar, parts_of, Taken, read_by_grammar}

@@ -11,8 +11,8 @@ use native.Mathlib.Omega.{arith}
 use borrow.Author.Tests.{le-leb, eq-eqb, eqb-true}
 use lib.Dec.{leb, eqb}
 use lib.ListN.{length, drop, get_or, length-append, length-map}
-use Rattle.model.specs.declared.Found.{Found}
-use Rattle.model.specs.declared.PictureHeader.{PictureHeader}
+use Rattle.model.specs.PictureHeader.{Found}
+use Rattle.model.specs.PictureHeader.{PictureHeader}
 use Rattle.model.specs.Text.{cap_to}
 use Rattle.model.specs.Netpbm.{is_space, value_of, pieces_text, IsHeader}
 use Rattle.model.specs.PictureHeader.{glyphs, found, most_value, magic, end_next, pbm_header, pgm_header}

@@ -7,7 +7,7 @@ use mathlib.Core.Path.{◌≡◌, refl, sym, ◌∙◌, ap, ap₂, subst}
 use Prim.Native.Nat.{ℕ, zero, suc}
 use native.Mathlib.Omega.{arith}
 use lib.ListN.{length}
-use Rattle.model.specs.declared.Found.{Found}
+use Rattle.model.specs.PictureHeader.{Found}
 use Rattle.model.specs.Basic.{All}
 use Rattle.model.specs.Text.{is_digit, cap_to}
 use Rattle.model.specs.Netpbm.{is_space, RunOf, Numeral, IsNumeral, decimal_from, value_of, numerals_text}

@@ -13,8 +13,8 @@ use lib.Dec.{eqb}
 use lib.Ieee.{Float, lt}
 use lib.ListN.{length, get_or, drop, length-append}
 use Rattle.model.specs.declared.PfmHeader.{PfmHeader}
-use Rattle.model.specs.declared.PfmLines.{PfmLines}
-use Rattle.model.specs.declared.Place.{Place}
+use Rattle.model.specs.PfmCalls.{PfmLines}
+use Rattle.model.specs.Format.{Place}
 use Rattle.model.specs.Basic.{pick}
 use Rattle.model.specs.Text.{bytes}
 use Rattle.model.specs.Format.{text_of, fixed_at, Parsed, parse}

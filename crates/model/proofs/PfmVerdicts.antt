@@ -16,7 +16,7 @@ use lib.ListN.{length, get_or, drop, length-append, length-drop, get_or-append}
 use lib.Seq.{sets, sets-eq, drop-append_seam}
 use Rattle.algebra.proofs.Grid.{cell_row, cell_column, cell<}
 use Rattle.model.specs.declared.PfmHeader.{PfmHeader}
-use Rattle.model.specs.declared.PfmLines.{PfmLines}
+use Rattle.model.specs.PfmCalls.{PfmLines}
 use Rattle.model.specs.Basic.{Exactly}
 use Rattle.model.specs.Calls.{result}
 use Rattle.model.specs.Netpbm.{cells_in}

@@ -13,7 +13,7 @@ use borrow.Author.Tests.{ltb-true, ltb-false, leb-true, le-leb, lt-ltb, not-fals
 use lib.Dec.{leb, ltb}
 use lib.ListN.{length, length-append}
 use Rattle.model.specs.declared.Size.{Size}
-use Rattle.model.specs.declared.PictureHeader.{PictureHeader}
+use Rattle.model.specs.PictureHeader.{PictureHeader}
 use Rattle.model.specs.Basic.{AtMost}
 use Rattle.model.specs.Refusal.{first_of, outside, differs, bad_size, bad_dot}
 use Rattle.model.specs.Netpbm.{InSize, cells_in, packed_size, packed, negated, pbm_head, pgm_head, pbm_file, pgm_file}

@@ -17,7 +17,7 @@ use borrow.Author.Tests.{ne_eqb}
 use lib.Dec.{leb, ltb, eqb}
 use lib.ListN.{drop_of_length-le, length, drop, length-append}
 use Rattle.model.specs.declared.Item.TheVariants.{Word, Number, LineEnd, Other}
-use Rattle.model.specs.declared.Run.{Run}
+use Rattle.model.specs.Text.{Run}
 use Rattle.model.specs.declared.Step.{Step}
 use Rattle.model.specs.Basic.{pick}
 use Rattle.model.specs.Text.{is_letter, is_digit, digits_in, digits, cap_to, capped, grow_to, NoDigit, run_to, step}

@@ -10,11 +10,11 @@ use borrow.Author.Tests.{lt-ltb}
 use lib.Dec.{leb, ltb, eqb}
 use lib.ListN.{length, get_or, drop, length-append, length-drop, get_or-append}
 use lib.Seq.{drop-append-le}
-use Rattle.model.specs.declared.Field.{Field}
+use Rattle.model.specs.Format.{Field}
 use Rattle.model.specs.declared.Item.{Item}
 use Rattle.model.specs.declared.Item.TheVariants.{Word, Number, LineEnd, Other}
-use Rattle.model.specs.declared.Place.{Place}
-use Rattle.model.specs.declared.Run.{Run}
+use Rattle.model.specs.Format.{Place}
+use Rattle.model.specs.Text.{Run}
 use Rattle.model.specs.declared.Step.{Step}
 use Rattle.model.specs.Basic.{pick}
 use Rattle.model.specs.Text.{is_letter, is_digit, grow_to, run_to, number_step, item_to}

@@ -3,7 +3,6 @@
 use Rattle.std.specs.Prelude.{List, [], ◌∷◌, ◌≡◌, ℕ, ◌-◌, ◌/◌, ◌%◌, ◌<◌, ℤ, pos, negsuc, ◌+ℤ◌, ◌-ℤ◌, ◌*ℤ◌, length}
 use Rattle.model.specs.declared.Size.{Size}
 use Rattle.model.specs.declared.ToneBalance.{ToneBalance}
-use Rattle.model.specs.declared.Balanced.{Balanced}
 use Rattle.model.specs.Psf.{total}
 use Rattle.model.specs.Error.{Target, target_of}
 use Rattle.model.specs.Ledger.{dot_total}
@@ -30,11 +29,6 @@ divided (negsuc d) n = record { quotient = negsuc (d / n); remainder = n - 1 - d
 -- the target of a plate of that size, without a psf
 abbrev pub target_of_size : Size → (gray : List ℕ) → Target
 target_of_size z gray = target_of z.width z.height 0 [] gray
-
--- the number and the values of each case of the answer in the code
-abbrev pub balanced : Balanced → Reply ToneBalance
-balanced (Balanced.Done b) = result b
-balanced (Balanced.Refused n) = refused n 0
 
 -- its list: 1, 5 of gray of that length, 5 of the dots, 7
 abbrev pub balance_refusals : Size → (gray : ℕ) (dots : List ℕ) → List Refusal

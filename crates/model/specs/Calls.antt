@@ -1,15 +1,13 @@
 -- Each public call as a function from what it is handed to its answer and to what it leaves in what it was lent.
-use Rattle.std.specs.Prelude.{List, [], ◌∷◌, ◌≡◌, ℕ, zero, suc, ℤ, length}
-use Rattle.model.specs.declared.Filled.{Filled}
-use Rattle.model.specs.declared.SquaredError.{SquaredError}
+use Rattle.std.specs.Prelude.{List, [], ◌∷◌, ◌≡◌, ℕ, zero, suc, ℤ, length, Result, Ok, Err}
+use Rattle.model.specs.declared.Reason.{Reason}
+use Rattle.model.specs.declared.Refused.{Refused}
+use Rattle.model.specs.Reason.{number_of}
 use Rattle.model.specs.declared.Measures.{Measures}
 use Rattle.model.specs.declared.Stats.{Stats}
-use Rattle.model.specs.declared.Started.{Started}
 use Rattle.model.specs.declared.Attempt.{Attempt}
 use Rattle.model.specs.declared.ScanResult.{ScanResult}
-use Rattle.model.specs.declared.Scanned.{Scanned}
 use Rattle.model.specs.declared.ConvergeResult.{ConvergeResult}
-use Rattle.model.specs.declared.Converged.{Converged}
 use Rattle.model.specs.Psf.{autocorrelations}
 use Rattle.model.specs.Error.{Target, target_of, target_for, cell_at, filtered_errors, squared_error}
 use Rattle.model.specs.Refusal.{autocorrelation_refusal, halftone_refusal, start_refusal}
@@ -26,31 +24,21 @@ pub data Reply (A : Type 0) : Type 0 where
   result : A → Reply A
   refused : (number at : ℕ) → Reply A
 
--- the number and the values of each case of the answers in the code
-abbrev pub filled : Filled → Reply (Unit {0})
-filled Filled.Done = result tt
-filled (Filled.Refused n) = refused n 0
+-- the number and the values of each case of an answer in the code
+abbrev pub reply_of : {A : Type 0} → Result A Reason → Reply A
+reply_of (Ok a) = result a
+reply_of (Err r) = refused (number_of r) 0
 
-abbrev pub valued : SquaredError → Reply ℤ
-valued (SquaredError.Value e) = result e
-valued (SquaredError.Refused n) = refused n 0
+-- of one with a byte offset
+abbrev pub placed_reply : {A : Type 0} → Result A Refused → Reply A
+placed_reply (Ok a) = result a
+placed_reply (Err r) = refused (number_of r.reason) r.at
 
-abbrev pub started : Started → Reply Stats
-started (Started.Fresh s) = result s
-started (Started.Refused n) = refused n 0
-
+-- of an attempt
 abbrev pub attempted : Attempt → Reply Tried
 attempted (Attempt.Accepted s d) = result (accepted s d)
 attempted (Attempt.Declined d) = result (declined d)
-attempted (Attempt.Refused n) = refused n 0
-
-abbrev pub scanned : Scanned → Reply ScanResult
-scanned (Scanned.Done r) = result r
-scanned (Scanned.Refused n) = refused n 0
-
-abbrev pub converged : Converged → Reply ConvergeResult
-converged (Converged.Done r) = result r
-converged (Converged.Refused n) = refused n 0
+attempted (Attempt.Refused r) = refused (number_of r) 0
 
 -- ---- a call: its answer, and what it leaves in the buffers that it is lent
 pub record Outcome (A B : Type 0) : Type 0 where

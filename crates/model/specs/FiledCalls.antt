@@ -1,14 +1,15 @@
 -- The check of a filed sheet: does the filed figure belong to the filed dots, does the ledger fit them, are they at
 -- rest? The call as a function from what it is handed to its answer and to what its buffers hold at exit.
-use Rattle.std.specs.Prelude.{Bool, ◌&&◌, not, List, [], ◌∷◌, ℕ, zero, suc, eqb, ℤ, pos, ◌+ℤ◌, ◌-ℤ◌, length}
+use Rattle.std.specs.Prelude.{Bool, ◌&&◌, not, List, [], ◌∷◌, ℕ, zero, suc, eqb, ℤ, pos, ◌+ℤ◌, ◌-ℤ◌, length, Result, Ok, Err}
 use Rattle.std.proofs.lemmas.List.Edits.{sets}
-use Rattle.model.specs.declared.Checked.{Checked}
+use Rattle.model.specs.declared.Verdict as Found
+use Rattle.model.specs.declared.Measures.{Measures}
+use Rattle.model.specs.declared.Reason.{Reason}
+use Rattle.model.specs.declared.Refused.{Refused}
 use Rattle.model.specs.declared.FiledFigures.{FiledFigures}
-use Rattle.model.specs.declared.Resting.{Resting}
-use Rattle.model.specs.declared.Resting.TheVariants.{Rests, Lowers, Unstarted}
 use Rattle.model.specs.declared.Stats.{Stats}
-use Rattle.model.specs.declared.Verdict.{Verdict}
 use Rattle.model.specs.Basic.{pick}
+use Rattle.model.specs.Reason.{number_of}
 use Rattle.model.specs.Error.{Target, filtered_errors, squared_error}
 use Rattle.model.specs.Ledger.{count_of, dot_total, unequal}
 use Rattle.model.specs.Scan.{toggles, swaps, sweep}
@@ -21,12 +22,44 @@ use Rattle.model.specs.Program.{sheet_target}
 use Rattle.model.specs.Grammar.{Taken}
 use Rattle.model.specs.Filed.{filed_sheet, filed_figures, read_filed}
 
--- the number and the values of each case of the answer in the code
-abbrev pub checked_of : Checked → Reply Verdict
-checked_of (Checked.Done v) = result v
-checked_of (Checked.Refused n o) = refused n o
-
 -- ---- the verdicts
+-- whether a filed plate is at rest: no toggle and no swap within reach lowers its squared error, one does, or a start
+-- would refuse the sheet with that number
+pub data Resting : Type 0 where
+  Rests : Resting
+  Lowers : Resting
+  Unstarted : ℕ → Resting
+
+-- what the check of a filed sheet finds: the squared error as filed and by the sum over the filed dots, whether they
+-- agree, whether the ledger fits the dots, and whether they are at rest
+pub record Verdict : Type 0 where
+  pub measures : Measures
+  pub filed : ℤ
+  pub squared : ℤ
+  pub figure : Bool
+  pub ledger : Bool
+  pub rest : Resting
+
+-- the number and the values of each case of the answer in the code
+abbrev pub resting_in : Result Bool Reason → Resting
+resting_in (Ok b) = pick b Rests Lowers
+resting_in (Err r) = Unstarted (number_of r)
+
+abbrev pub verdict_in : Found.Verdict → Verdict
+verdict_in v =
+    record {
+      measures = v.measures;
+      filed = v.filed;
+      squared = v.squared;
+      figure = v.figure;
+      ledger = v.ledger;
+      rest = resting_in v.rest;
+    }
+
+abbrev pub checked_of : Result Found.Verdict Refused → Reply Verdict
+checked_of (Ok v) = result (verdict_in v)
+checked_of (Err r) = refused (number_of r.reason) r.at
+
 -- the ledger as filed, the dots at the start being the dots on the plate - on + off; below 0 there was no such start,
 -- and the number that stands for it draws 21
 abbrev pub filed_stats : List ℕ → FiledFigures → Stats

@@ -2,9 +2,9 @@
 -- of proofs/FiledExamples.antt fills the table by computing.
 use Rattle.std.specs.Prelude.{Bool, true, false, List, [], ◌∷◌, ◌++◌, ◌≡◌, ℕ, pos}
 use Prim.Native.String.{String}
-use Rattle.model.specs.declared.Resting.{Resting}
-use Rattle.model.specs.declared.Resting.TheVariants.{Rests, Lowers, Unstarted}
-use Rattle.model.specs.declared.Verdict.{Verdict}
+use Rattle.model.specs.FiledCalls.{Resting}
+use Rattle.model.specs.FiledCalls.{Rests, Lowers, Unstarted}
+use Rattle.model.specs.FiledCalls.{Verdict}
 use Rattle.model.specs.Calls.{Reply, result, refused}
 use Rattle.model.specs.Text.{bytes}
 use Rattle.model.specs.FiledCalls.{check_call}

@@ -2,8 +2,8 @@
 use Rattle.std.specs.Prelude.{true, List, ◌⊎◌, ◌≡◌, ℕ, ◌≤◌, ◌<◌, ℤ, pos, length}
 use Rattle.model.specs.declared.FiledFigures.{FiledFigures}
 use Rattle.model.specs.declared.Measures.{Measures}
-use Rattle.model.specs.declared.Resting.TheVariants.{Rests, Lowers, Unstarted}
-use Rattle.model.specs.declared.Verdict.{Verdict}
+use Rattle.model.specs.FiledCalls.{Rests, Lowers, Unstarted}
+use Rattle.model.specs.FiledCalls.{Verdict}
 use Rattle.model.specs.Basic.{Exactly}
 use Rattle.model.specs.Psf.{total}
 use Rattle.model.specs.Error.{Target, filtered_errors, squared_error}

@@ -1,12 +1,9 @@
 -- Reading a sheet, as a definition: its format is a list of parts, and they are read one after the other up to the
 -- first that is refused.
 use Rattle.std.specs.Prelude.{Bool, ◌&&◌, List, [], ◌∷◌, ◌++◌, ℕ, zero, suc, ◌+◌, leb, ltb, eqb, length, get_or, take, drop}
-use Rattle.model.specs.declared.Field.{Field}
-use Rattle.model.specs.declared.Head.{Head}
 use Rattle.model.specs.declared.Item.{Item}
 use Rattle.model.specs.declared.Item.TheVariants.{Word, Number, LineEnd, Other}
 use Rattle.model.specs.declared.Measures.{Measures}
-use Rattle.model.specs.declared.Place.{Place}
 use Rattle.model.specs.Basic.{pick}
 use Rattle.model.specs.Text.{space, line_end, digits, step_to}
 use Rattle.model.specs.Sheet.{Sheet, side_of, entries_of, cells_of, room_for, end_of, names, psf_name, gray_name}
@@ -63,6 +60,17 @@ text_of (number lo hi end ∷ ps) [] = []
 text_of (number lo hi end ∷ ps) (v ∷ vs) = digits v ++ (end ∷ text_of ps vs)
 
 -- ---- reading one part
+-- how far a text is read: refusal 0 and the place after what was read, or the number of a refusal and its byte offset
+pub record Place : Type 0 where
+  pub refusal : ℕ
+  pub at : ℕ
+
+-- the same of one number and the byte that ends it; its value is 0 where it is refused
+pub record Field : Type 0 where
+  pub refusal : ℕ
+  pub at : ℕ
+  pub value : ℕ
+
 -- byte b stands at a place
 abbrev pub is_at : ℕ → List ℕ → ℕ → Bool
 is_at b s at = ltb at (length s) && eqb (get_or s at 0) b
@@ -135,6 +143,12 @@ measures_of vs = record {
   reach = get_or vs 3 0;
   start = get_or vs 4 0;
 }
+
+-- how far lines 1 and 2 are read, as in `Place`, with the measures
+pub record Head : Type 0 where
+  pub refusal : ℕ
+  pub at : ℕ
+  pub measures : Measures
 
 -- lines 1 and 2, by their parts
 unfoldable pub head_by : List Part → List ℕ → Head

@@ -1,9 +1,9 @@
 -- A grammar of texts that begin with measures, as a sheet does, given by its parts; what a text is refused for by it
 -- (document 01: 10, 11 and 12, the leftmost place deciding), without a reader; and reading by it, as a definition.
 use Rattle.std.specs.Prelude.{Bool, false, List, [], ◌∷◌, ◌++◌, ◌⊎◌, ◌≡◌, ℕ, suc, ◌+◌, ◌<◌, eqb, length, take}
-use Rattle.model.specs.declared.Head.{Head}
+use Rattle.model.specs.Format.{Head}
 use Rattle.model.specs.declared.Measures.{Measures}
-use Rattle.model.specs.declared.Place.{Place}
+use Rattle.model.specs.Format.{Place}
 use Rattle.model.specs.Basic.{pick}
 use Rattle.model.specs.Text.{digits, NoDigit}
 use Rattle.model.specs.Sheet.{values_of}

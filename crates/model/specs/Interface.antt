@@ -9,9 +9,9 @@ use Rattle.model.specs.declared.ScanResult.{ScanResult}
 use Rattle.model.specs.declared.ConvergeResult.{ConvergeResult}
 use Rattle.model.specs.declared.ToneBalance.{ToneBalance}
 use Rattle.model.specs.declared.PfmHeader.{PfmHeader}
-use Rattle.model.specs.declared.Resting.{Resting}
-use Rattle.model.specs.declared.Resting.TheVariants.{Rests, Lowers, Unstarted}
-use Rattle.model.specs.declared.Verdict.{Verdict}
+use Rattle.model.specs.FiledCalls.{Resting}
+use Rattle.model.specs.FiledCalls.{Rests, Lowers, Unstarted}
+use Rattle.model.specs.FiledCalls.{Verdict}
 use Rattle.model.specs.Basic.{pick}
 use Rattle.model.specs.Ledger.{count_of}
 use Rattle.model.specs.Refusal.{Refusal, ◌when◌, first_of, bad_measures}

@@ -4,6 +4,7 @@ pub mod Basic
 pub mod Psf
 -- Table and squared error
 pub mod Error
+pub mod Setting
 -- Locked cells (02, C-12)
 pub mod Lock
 -- One change
@@ -14,7 +15,8 @@ pub mod Screen
 -- Scans and settling
 pub mod Partners
 pub mod Scan
--- Refused because of the input, and because of the state
+-- Refused because of the input, and because of the state; the refusals as the code names them
+pub mod Reason
 pub mod Refusal
 pub mod State
 -- Lists of calls: the plain plate, the calls, and lists of them

@@ -1,11 +1,9 @@
 -- Reading a gray PFM (02, C-16): its lines as an executable definition, the refusals in their order, and the call as a
 -- function from what it is handed to its answer and to what its buffer holds at exit. That it reads just the files of
 -- Pfm.antt is promised (PfmPromises.antt).
-use Rattle.std.specs.Prelude.{true, false, ◌||◌, not, List, [], ◌∷◌, ℕ, ◌+◌, ◌*◌, ltb, eqb, length, get_or, drop, Float}
+use Rattle.std.specs.Prelude.{Bool, true, false, ◌||◌, not, List, [], ◌∷◌, ℕ, ◌+◌, ◌*◌, ltb, eqb, length, get_or, drop, Float}
 use Rattle.std.proofs.lemmas.List.Edits.{sets}
 use Rattle.model.specs.declared.PfmHeader.{PfmHeader}
-use Rattle.model.specs.declared.PfmLines.{PfmLines}
-use Rattle.model.specs.declared.PfmReading.{PfmReading}
 use Rattle.model.specs.Basic.{pick}
 use Rattle.model.specs.Text.{bytes, space, line_end}
 use Rattle.model.specs.Format.{Part, fixed, number, fixed_at, parse}
@@ -21,6 +19,11 @@ unfoldable pub size_parts : List Part
 size_parts = fixed (bytes "Pf\n") ∷ number 1 256 space ∷ number 1 256 line_end ∷ []
 
 -- what is found of the lines: whether they are there, the header, and the place after them
+pub record PfmLines : Type 0 where
+  pub good : Bool
+  pub header : PfmHeader
+  pub at : ℕ
+
 abbrev pub no_lines : PfmLines
 no_lines = record { good = false; header = record { width = 0; height = 0; scale = one_float }; at = 0 }
 
@@ -43,11 +46,6 @@ pfm_lines s =
     pick (eqb p.refusal 0) (scale_after (get_or p.values 0 0) (get_or p.values 1 0) s p.at) no_lines
 
 -- ---- the call
--- the number and the values of each case of the answer in the code
-abbrev pub pfm_of : PfmReading → Reply PfmHeader
-pfm_of (PfmReading.Done h) = result h
-pfm_of (PfmReading.Refused n o) = refused n o
-
 -- 17 a header or length outside this
 abbrev pub bad_pfm : PfmLines → (file : ℕ) → Refusal
 bad_pfm h file = 17 when (not h.good || not (eqb file (h.at + 4 * cells_in (size_in h.header))))

@@ -3,22 +3,11 @@
 use Rattle.std.specs.Prelude.{Bool, ◌&&◌, ◌||◌, not, List, [], ◌∷◌, ◌++◌, ℕ, ◌+◌, leb, ltb, eqb, length, drop}
 use Rattle.std.proofs.lemmas.List.Edits.{sets}
 use Rattle.model.specs.declared.Size.{Size}
-use Rattle.model.specs.declared.PictureHeader.{PictureHeader}
-use Rattle.model.specs.declared.Picture.{Picture}
-use Rattle.model.specs.declared.Written.{Written}
+use Rattle.model.specs.PictureHeader.{PictureHeader}
 use Rattle.model.specs.Refusal.{Refusal, ◌when◌, first_of, outside, differs, bad_size, bad_dot}
 use Rattle.model.specs.Calls.{Reply, result, refused, Outcome, unless}
 use Rattle.model.specs.Netpbm.{cells_in, packed_size, unpacked, negated, row_counts, pbm_file, pgm_file}
 use Rattle.model.specs.PictureHeader.{pbm_header, pgm_header, size_of}
-
--- the number and the values of each case of the answers in the code
-abbrev pub picture_of : Picture → Reply Size
-picture_of (Picture.Done z) = result z
-picture_of (Picture.Refused n) = refused n 0
-
-abbrev pub written_of : Written → Reply ℕ
-written_of (Written.Done k) = result k
-written_of (Written.Refused n) = refused n 0
 
 -- ---- refusals
 -- a maximum that the layout allows

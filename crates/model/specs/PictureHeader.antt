@@ -2,8 +2,6 @@
 -- That it reads just the headers of Netpbm.antt is promised (PicturePromises.antt).
 use Rattle.std.specs.Prelude.{Bool, true, false, ◌&&◌, ◌||◌, not, List, [], ◌∷◌, ℕ, ◌+◌, leb, eqb, length, get_or, drop}
 use Rattle.model.specs.declared.Size.{Size}
-use Rattle.model.specs.declared.Found.{Found}
-use Rattle.model.specs.declared.PictureHeader.{PictureHeader}
 use Rattle.model.specs.Basic.{pick}
 use Rattle.model.specs.Text.{is_digit, grow_to}
 use Rattle.model.specs.Netpbm.{is_space, opens_comment, ends_comment}
@@ -31,6 +29,21 @@ abbrev pub glyphs_at : List ℕ → ℕ → List Glyph
 glyphs_at s at = glyphs false at (drop at s)
 
 -- ---- the parts of a header
+-- what is found of it so far: whether all of it was there, the value of its last number, 0 where it is none, and the
+-- place after it
+pub record Found : Type 0 where
+  pub some : Bool
+  pub value : ℕ
+  pub at : ℕ
+
+-- the header: whether it is one, its numbers, and the place after it; the maximum of a PBM is 1
+pub record PictureHeader : Type 0 where
+  pub good : Bool
+  pub width : ℕ
+  pub height : ℕ
+  pub maximum : ℕ
+  pub at : ℕ
+
 abbrev pub found : Bool → (value at : ℕ) → Found
 found some v at = record { some = some; value = v; at = at }
 

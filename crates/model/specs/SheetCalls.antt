@@ -3,22 +3,11 @@
 use Rattle.std.specs.Prelude.{List, ℕ, leb, eqb, length}
 use Rattle.std.proofs.lemmas.List.Edits.{sets}
 use Rattle.model.specs.declared.Measures.{Measures}
-use Rattle.model.specs.declared.Reading.{Reading}
-use Rattle.model.specs.declared.Writing.{Writing}
 use Rattle.model.specs.Basic.{pick}
 use Rattle.model.specs.Refusal.{write_refusal}
 use Rattle.model.specs.Calls.{Reply, result, refused, Outcome, unless}
 use Rattle.model.specs.Sheet.{Sheet, sheet_with, sheet_text}
 use Rattle.model.specs.Format.{Read, read_sheet}
-
--- the number and the values of each case of the answers in the code
-abbrev pub reading_of : Reading → Reply Measures
-reading_of (Reading.Done m) = result m
-reading_of (Reading.Refused n o) = refused n o
-
-abbrev pub writing_of : Writing → Reply ℕ
-writing_of (Writing.Done k) = result k
-writing_of (Writing.Refused n o) = refused n o
 
 -- ---- reading
 pub record SheetBuffers : Type 0 where

@@ -7,7 +7,6 @@ use Rattle.std.proofs.lemmas.List.Edits.{sets}
 use Rattle.model.specs.declared.Item.{Item}
 use Rattle.model.specs.declared.Item.TheVariants.{Word, Number, LineEnd, Other}
 use Rattle.model.specs.declared.Step.{Step}
-use Rattle.model.specs.declared.Run.{Run}
 use Rattle.model.specs.Basic.{pick}
 
 -- the bytes of a text
@@ -67,6 +66,11 @@ word_end i (x ∷ xs) = pick (is_letter x) (word_end (i + 1) xs) i
 abbrev pub NoDigit : List ℕ → Type 0
 NoDigit [] = Unit
 NoDigit (x ∷ xs) = is_digit x ≡ false
+
+-- a run of digits: its value, and where it ends
+pub record Run : Type 0 where
+  pub value : ℕ
+  pub end : ℕ
 
 -- the run of digits under a limit, with a value before it
 abbrev pub run_to : (limit value at : ℕ) → List ℕ → Run

@@ -1,6 +1,12 @@
 // The public types of the plate maker. What they mean, and the promises, are in specs/.
 #![tactic(auto)]
 
+ghost use Rattle.std.specs.Prelude.{◌≡◌};
+ghost use Rattle.model.specs.Reason.{number_of, unplaced};
+
+use std::error::Error;
+use std::fmt;
+
 // The most cells of a plate: 256².
 pub const MOST_CELLS: usize = 65536;
 
@@ -16,6 +22,94 @@ pub const MOST_VALUE: usize = 65536;
 // The most bytes that the program prints.
 pub const MOST_PRINTED: usize = 40960;
 
+// Why a call is refused. The papers' number of each is `number_of` of specs/Reason.antt, and `u32::from` answers it.
+#[derive(Clone, Copy, Debug, PartialEq, Eq)]
+pub enum Reason {
+    Size,
+    Radius,
+    Reach,
+    Kind,
+    Length,
+    Sum,
+    Dot,
+    Cell,
+    Pair,
+    Byte,
+    Field,
+    Room,
+    Input,
+    Layout,
+    Maximum,
+    Contradiction,
+    Pfm,
+    Sample,
+    Table,
+    Ledger,
+    Like,
+    Locked,
+}
+
+impl From<Reason> for u32 {
+    ghost from_gives = { λ r n. n ≡ number_of r };
+
+    fn from(reason: Reason) -> u32 {
+        match reason {
+            Reason::Size => 1,
+            Reason::Radius => 2,
+            Reason::Reach => 3,
+            Reason::Kind => 4,
+            Reason::Length => 5,
+            Reason::Sum => 6,
+            Reason::Dot => 7,
+            Reason::Cell => 8,
+            Reason::Pair => 9,
+            Reason::Byte => 10,
+            Reason::Field => 11,
+            Reason::Room => 12,
+            Reason::Input => 13,
+            Reason::Layout => 14,
+            Reason::Maximum => 15,
+            Reason::Contradiction => 16,
+            Reason::Pfm => 17,
+            Reason::Sample => 18,
+            Reason::Table => 20,
+            Reason::Ledger => 21,
+            Reason::Like => 22,
+            Reason::Locked => 23,
+        }
+    }
+}
+
+impl fmt::Display for Reason {
+    fn fmt<W: fmt::Write>(&self, f: &mut fmt::Formatter<W>) -> fmt::Result {
+        write!(f, "{}", u32::from(*self))
+    }
+}
+
+impl Error for Reason {}
+
+// A refusal with the byte offset where it is drawn, which is 0 where there is no place.
+#[derive(Clone, Copy, Debug, PartialEq, Eq)]
+pub struct Refused {
+    pub reason: Reason,
+    pub at: usize,
+}
+
+impl From<Reason> for Refused {
+    ghost from_gives = { λ r e. e ≡ unplaced r };
+
+    fn from(reason: Reason) -> Refused {
+        Refused { reason, at: 0 }
+    }
+}
+
+// What is read of a text, and the place after it.
+#[derive(Clone, Copy, Debug, PartialEq, Eq)]
+pub struct After<T> {
+    pub value: T,
+    pub at: usize,
+}
+
 // Document 01's measures: the size of the plate, the radius of the psf, the reach of a swap and the kind of start.
 #[derive(Clone, Copy)]
 pub struct Measures {
@@ -24,6 +118,14 @@ pub struct Measures {
     pub radius: usize,
     pub reach: usize,
     pub start: usize,
+}
+
+// What a plate is made for: its measures, the psf (01: spread) and the gray.
+#[derive(Clone, Copy)]
+pub struct Setting<'a> {
+    pub measures: Measures,
+    pub psf: &'a [u8],
+    pub gray: &'a [u8],
 }
 
 // A cell of a plate by its row and its column.
@@ -51,34 +153,13 @@ pub struct Stats {
     pub figures: Figures,
 }
 
-// The answer of a call that fills a buffer: it is filled, or refused with the number of document 01.
-#[derive(Clone, Copy)]
-pub enum Filled {
-    Done,
-    Refused(u32),
-}
-
-// The answer of the squared error: its value, or refused with the number of document 01.
-#[derive(Clone, Copy)]
-pub enum SquaredError {
-    Value(i64),
-    Refused(u32),
-}
-
-// The answer of a start: a fresh ledger, or refused with the number of document 01.
-#[derive(Clone, Copy)]
-pub enum Started {
-    Fresh(Stats),
-    Refused(u32),
-}
-
 // The answer of an attempt: accepted with the new ledger and the change of the squared error, declined with the change
-// that it would have been, or refused with the number of document 01.
+// that it would have been, or refused. Three cases in one enum are the form that document 01 asks for.
 #[derive(Clone, Copy)]
 pub enum Attempt {
     Accepted(Stats, i64),
     Declined(i64),
-    Refused(u32),
+    Refused(Reason),
 }
 
 // What a scan answers: the new ledger, the changes that it accepted, and its trials, the changes that its rule weighs.
@@ -89,13 +170,6 @@ pub struct ScanResult {
     pub trials: u64,
 }
 
-// The answer of a scan: its result, or refused with the number of document 01.
-#[derive(Clone, Copy)]
-pub enum Scanned {
-    Done(ScanResult),
-    Refused(u32),
-}
-
 // What a convergence (01: a settling) answers: the new ledger and the number of scans, toggle and swap scans together.
 #[derive(Clone, Copy)]
 pub struct ConvergeResult {
@@ -103,47 +177,11 @@ pub struct ConvergeResult {
     pub scans: u64,
 }
 
-// The answer of a convergence: its result, or refused with the number of document 01.
-#[derive(Clone, Copy)]
-pub enum Converged {
-    Done(ConvergeResult),
-    Refused(u32),
-}
-
-// The answer of reading a sheet: its measures, or refused with the number of document 01 and the byte offset.
-#[derive(Clone, Copy)]
-pub enum Reading {
-    Done(Measures),
-    Refused(u32, usize),
-}
-
-// The answer of writing a sheet: its length, or refused with the number of document 01 and the byte offset, which is 0
-// where there is no place.
-#[derive(Clone, Copy)]
-pub enum Writing {
-    Done(usize),
-    Refused(u32, usize),
-}
-
 // The size of a plate or a picture: width and height in cells.
 #[derive(Clone, Copy)]
 pub struct Size {
     pub width: usize,
     pub height: usize,
-}
-
-// The answer of reading a picture: its size, or refused with a number of the requests' document 02.
-#[derive(Clone, Copy)]
-pub enum Picture {
-    Done(Size),
-    Refused(u32),
-}
-
-// The answer of writing a picture: its length in bytes, or refused with the number of document 01.
-#[derive(Clone, Copy)]
-pub enum Written {
-    Done(usize),
-    Refused(u32),
 }
 
 // The header of a PFM: width and height, and the scale, whose sign names the byte order of the samples.
@@ -162,14 +200,6 @@ pub enum Sample {
     NotANumber,
 }
 
-// The answer of reading a PFM: its header, or refused with a number of the requests' document 02 and the byte offset,
-// which is 0 where there is no place.
-#[derive(Clone, Copy)]
-pub enum PfmReading {
-    Done(PfmHeader),
-    Refused(u32, usize),
-}
-
 // The tone balance of a plate: by how much its dots are darker than its gray, divided by its cells.
 #[derive(Clone, Copy)]
 pub struct ToneBalance {
@@ -177,24 +207,8 @@ pub struct ToneBalance {
     pub remainder: usize,
 }
 
-// The answer of the tone balance: its two numbers, or refused with the number of document 01.
-#[derive(Clone, Copy)]
-pub enum Balanced {
-    Done(ToneBalance),
-    Refused(u32),
-}
-
-// Whether a filed plate is at rest: no toggle and no swap within reach lowers its squared error, one does, or a start
-// would refuse the sheet with that number.
-#[derive(Clone, Copy)]
-pub enum Resting {
-    Rests,
-    Lowers,
-    Unstarted(u32),
-}
-
 // What the check of a filed sheet finds: the squared error as filed and by the sum over the filed dots, whether they
-// agree, whether the ledger fits the dots, and whether they are at rest.
+// agree, whether the ledger fits the dots, and whether they are at rest, or why a start would refuse the sheet.
 #[derive(Clone, Copy)]
 pub struct Verdict {
     pub measures: Measures,
@@ -202,15 +216,7 @@ pub struct Verdict {
     pub squared: i64,
     pub figure: bool,
     pub ledger: bool,
-    pub rest: Resting,
-}
-
-// The answer of the check: what it finds, or refused with the number of document 01 and the byte offset, which is 0
-// where there is no place.
-#[derive(Clone, Copy)]
-pub enum Checked {
-    Done(Verdict),
-    Refused(u32, usize),
+    pub rest: Result<bool, Reason>,
 }
 
 // ---- the types of inner functions, which no public call answers
@@ -247,36 +253,6 @@ pub struct Step {
     pub next: usize,
 }
 
-// A run of digits: its value, and where it ends.
-#[derive(Clone, Copy)]
-pub struct Run {
-    pub value: usize,
-    pub end: usize,
-}
-
-// How far a sheet is read: refusal 0 and the place after it, or the number of a refusal and its byte offset.
-#[derive(Clone, Copy)]
-pub struct Place {
-    pub refusal: u32,
-    pub at: usize,
-}
-
-// The same of one number and the byte that ends it; its value is 0 where it is refused.
-#[derive(Clone, Copy)]
-pub struct Field {
-    pub refusal: u32,
-    pub at: usize,
-    pub value: usize,
-}
-
-// The same of lines 1 and 2 of a sheet, with the measures.
-#[derive(Clone, Copy)]
-pub struct Head {
-    pub refusal: u32,
-    pub at: usize,
-    pub measures: Measures,
-}
-
 // The six figures under a filed sheet, as filed.
 #[derive(Clone, Copy)]
 pub struct FiledFigures {
@@ -288,37 +264,9 @@ pub struct FiledFigures {
     pub scans: u64,
 }
 
-// How far a filed sheet is read, as in `Place`, with its figures.
+// What the header of a picture says: its size, and its maximum, which of a PBM is 1.
 #[derive(Clone, Copy)]
-pub struct FiledEnd {
-    pub refusal: u32,
-    pub at: usize,
-    pub figures: FiledFigures,
-}
-
-// What is found of a picture's header so far: whether all of it was there, the value of its last number, 0 where it is
-// none, and the place after it.
-#[derive(Clone, Copy)]
-pub struct Found {
-    pub some: bool,
-    pub value: usize,
-    pub at: usize,
-}
-
-// The header of a picture: whether it is one, its numbers, and the place after it. The maximum of a PBM is 1.
-#[derive(Clone, Copy)]
-pub struct PictureHeader {
-    pub good: bool,
-    pub width: usize,
-    pub height: usize,
+pub struct NetpbmHeader {
+    pub size: Size,
     pub maximum: usize,
-    pub at: usize,
-}
-
-// The lines of a PFM: whether they are there, the header, and the place after them.
-#[derive(Clone, Copy)]
-pub struct PfmLines {
-    pub good: bool,
-    pub header: PfmHeader,
-    pub at: usize,
 }
