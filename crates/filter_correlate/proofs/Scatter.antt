@@ -1,17 +1,15 @@
 -- The autocorrelation by windows of the psf, one in each turn of a loop.
 --   table_next                  the table one window further
 --   mirrored_small, side_small  the sizes of its entries on the way, and how many entries a psf has
---   entry_row, entry_column     where an entry stands in the psf
 --   mirrored_is                 the table built so from a psf is its autocorrelation
 --   front_holds                 a list with the autocorrelation in its front holds the kernel
 use mathlib.Core.Path.{◌≡◌, sym, ◌∙◌, ap, ap₂, subst}
 use mathlib.Core.List.{List, ◌++◌, map}
-use Prim.Native.Nat.{ℕ, ◌+◌, ◌*◌, ◌/◌, ◌%◌, ◌≤◌, ◌<◌}
+use Prim.Native.Nat.{ℕ, ◌+◌, ◌*◌, ◌≤◌}
 use native.Mathlib.Nat as NatL
 use native.Mathlib.Omega.{arith}
 use lib.IntN.{ℤ, pos, nat_abs}
 use lib.ListN.{length, get_or, length-map, length-append}
-use Rattle.algebra.proofs.Grid.{row<, column<}
 use Rattle.algebra.proofs.Order.{nat_abs_mul_le, nat_abs_below}
 use Rattle.algebra.proofs.SumOrder.{nat_abs_sum}
 use Rattle.model.specs.Basic.{tabulate, square_at}
@@ -38,14 +36,6 @@ mirrored_small r p i q s h =
     NatL.le_trans
     (nat_abs_sum i _ 65025 (λ k l. nat_abs_mul_le (get_or p k (pos 0)) _ (s.each k) (square_small r p _ _ s)))
     (omega arith)
-
--- the row and the column of an entry in the square
-module _ (r i : ℕ) where
-  pub entry_row : i < (2 * r + 1) * (2 * r + 1) → i / (2 * r + 1) < 2 * r + 1
-  entry_row h = row< i (omega arith) h
-
-  pub entry_column : i % (2 * r + 1) < 2 * r + 1
-  entry_column = column< i (omega arith)
 
 pub side_small : {r : ℕ} → r ≤ 3 → (2 * r + 1) * (2 * r + 1) ≤ 49
 side_small {r} h = NatL.mul-le-mul {n₂ = 7} {m₂ = 7} (omega arith) (omega arith)

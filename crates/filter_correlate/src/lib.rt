@@ -9,17 +9,14 @@ ghost use Rattle.filter_correlate.specs.Scatter.{mirrored};
 
 use filter_window::add_window;
 use model::Cell;
-use slices::clear_numbers;
 
 // the bytes as signed numbers
 fn widen(bytes: &[u8], out: &mut [i32])
     requires { length out.old ≡ length bytes.now }
     ensures { out.new ≡ map pos bytes.now }
 {
-    let mut i: usize = 0;
-    while i < bytes.len() {
-        out[i] = bytes[i] as i32;
-        i += 1;
+    for (i, b) in bytes.iter().enumerate() {
+        out[i] = i32::from(*b);
     }
 }
 
@@ -29,17 +26,14 @@ fn correlate(radius: usize, p: &[i32], out: &mut [i32])
     requires out_len { length out.old ≡ (4 * radius + 1) * (4 * radius + 1) }
     ensures { out.new ≡ mirrored radius p.now }
 {
-    clear_numbers(out);
+    out.fill(0);
     let side = 2 * radius + 1;
     let width = 4 * radius + 1;
     let middle = 3 * radius;
-    let mut i: usize = 0;
-    while i < p.len() {
+    for (i, amount) in p.iter().enumerate() {
         let row = middle - i / side;
         let col = middle - i % side;
-        let amount = p[i];
-        add_window(out, width, width, Cell { row, col }, radius, p, amount);
-        i += 1;
+        add_window(out, width, width, Cell { row, col }, radius, p, *amount);
     }
 }
 

@@ -10,7 +10,6 @@ ghost use Rattle.filter_passes.specs.Passes.{Added, Lies, most_spread, cells_aro
 ghost use Rattle.filter_passes.specs.Passes.{passed, spread, gathered};
 
 use filter_window::add_run;
-use slices::clear_numbers;
 
 // How a plate lies in a slice: its rows are `span` apart; with `moves` 1 an entry of the psf moves it by that entry's row
 // and column, with 0 it stays.
@@ -40,12 +39,8 @@ fn add_rows(
     ensures { Added at stride c.now from span n rows amount
         table.old table.new }
 {
-    let mut y: usize = 0;
-    while y < rows {
-        let to = at + y * stride;
-        let there = from + y * span;
-        add_run(table, to, c, there, n, amount);
-        y += 1;
+    for y in 0..rows {
+        add_run(table, at + y * stride, c, from + y * span, n, amount);
     }
 }
 
@@ -75,14 +70,12 @@ fn pass(
     ensures { out.new ≡ passed width height radius psf.now from to
         c.now (length out.old) }
 {
-    clear_numbers(out);
-    let mut k: usize = 0;
-    while k < psf.len() {
+    out.fill(0);
+    for (k, p) in psf.iter().enumerate() {
         let at = corner(radius, to, k);
         let there = corner(radius, from, k);
-        let amount = psf[k] as i32;
+        let amount = i32::from(*p);
         add_rows(out, at, to.span, c, there, from.span, width, height, amount);
-        k += 1;
     }
 }
 
@@ -92,12 +85,14 @@ pub fn spread(width: usize, height: usize, radius: usize, psf: &[u8], e: &[i32],
     requires e_len { (length e.now ≡ height * width) × (length out.old ≡ cells_around width height radius) }
     ensures { out.new ≡ spread width height radius psf.now e.now }
 {
-    let span = width + 2 * radius;
     let plate = Frame {
         span: width,
         moves: 0,
     };
-    let around = Frame { span, moves: 1 };
+    let around = Frame {
+        span: width + 2 * radius,
+        moves: 1,
+    };
     pass(width, height, radius, psf, plate, around, e, out);
 }
 
@@ -107,11 +102,13 @@ pub fn gather(width: usize, height: usize, radius: usize, psf: &[u8], g: &[i32],
     requires g_len { (length g.now ≡ cells_around width height radius) × (length out.old ≡ height * width) }
     ensures { out.new ≡ gathered width height radius psf.now g.now }
 {
-    let span = width + 2 * radius;
     let plate = Frame {
         span: width,
         moves: 0,
     };
-    let around = Frame { span, moves: 1 };
+    let around = Frame {
+        span: width + 2 * radius,
+        moves: 1,
+    };
     pass(width, height, radius, psf, around, plate, g, out);
 }

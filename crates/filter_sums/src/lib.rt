@@ -17,7 +17,7 @@ fn error_at(gray: &[u8], dots: &[u8], n: usize) -> i32
     requires { (n < length gray.now) × (n < length dots.now) × (get_or dots.now n 0 ≤ 1) }
     ensures { (result ≡ error_of 255 gray.now dots.now n) × (nat_abs result ≤ 255) }
 {
-    255 * (dots[n] as i32) - (gray[n] as i32)
+    255 * i32::from(dots[n]) - i32::from(gray[n])
 }
 
 // the error of each cell
@@ -25,11 +25,8 @@ fn errors(gray: &[u8], dots: &[u8], out: &mut [i32])
     requires { SameCells gray.now dots.now (length out.old) }
     ensures { out.new ≡ errors_of gray.now dots.now }
 {
-    let mut n: usize = 0;
-    while n < gray.len() {
-        let e = error_at(gray, dots, n);
-        out[n] = e;
-        n += 1;
+    for n in 0..out.len() {
+        out[n] = error_at(gray, dots, n);
     }
 }
 
@@ -39,10 +36,8 @@ fn weigh(gray: &[u8], dots: &[u8], table: &[i32]) -> i64
     ensures { result ≡ weighed gray.now dots.now table.now }
 {
     let mut sum: i64 = 0;
-    let mut m: usize = 0;
-    while m < table.len() {
-        sum += (error_at(gray, dots, m) as i64) * (table[m] as i64);
-        m += 1;
+    for m in 0..table.len() {
+        sum += i64::from(error_at(gray, dots, m)) * i64::from(table[m]);
     }
     sum
 }
@@ -61,11 +56,11 @@ pub fn filter(
     ensures { let t = target_of width height radius psf.now gray.now in
         table.new ≡ filtered_errors t dots.now }
 {
-    let mut g = [0i32; MOST_WIDENED];
-    let n = (height + 2 * radius) * (width + 2 * radius);
+    let mut room = [0i32; MOST_WIDENED];
+    let around = &mut room[..(height + 2 * radius) * (width + 2 * radius)];
     errors(gray, dots, table);
-    spread(width, height, radius, psf, table, &mut g[..n]);
-    gather(width, height, radius, psf, &g[..n], table);
+    spread(width, height, radius, psf, table, around);
+    gather(width, height, radius, psf, around, table);
 }
 
 // the table of a judged plate, and its squared error by one pass over the table
@@ -101,6 +96,6 @@ pub fn square(
     ensures { result ≡ squared_error
         (target_of width height radius psf.now gray.now) dots.now }
 {
-    let n = gray.len();
-    filter_and_square(width, height, radius, psf, gray, dots, &mut scratch[..n])
+    let table = &mut scratch[..gray.len()];
+    filter_and_square(width, height, radius, psf, gray, dots, table)
 }

@@ -15,13 +15,8 @@ pub fn add_run(table: &mut [i32], at: usize, c: &[i32], from: usize, n: usize, a
     requires scaled { Scaled most_filtered amount c.now }
     ensures { Ran at c.now from amount n table.old table.new }
 {
-    let mut k: usize = 0;
-    while k < n {
-        let here = at + k;
-        let there = from + k;
-        let sum = table[here] + amount * c[there];
-        table[here] = sum;
-        k += 1;
+    for k in 0..n {
+        table[at + k] += amount * c[from + k];
     }
 }
 
@@ -29,7 +24,7 @@ pub fn add_run(table: &mut [i32], at: usize, c: &[i32], from: usize, n: usize, a
 pub fn low(x: usize, reach: usize) -> usize
     ensures { result ≡ x - reach }
 {
-    if reach < x { x - reach } else { 0 }
+    x.saturating_sub(reach)
 }
 
 // the end of what lies within the reach of x and below n
@@ -37,8 +32,7 @@ pub fn high(x: usize, reach: usize, n: usize) -> usize
     requires { (x < 256) × (reach ≤ 6) }
     ensures { result ≡ min (x + reach + 1) n }
 {
-    let end = x + reach + 1;
-    if end < n { end } else { n }
+    (x + reach + 1).min(n)
 }
 
 // Every cell q within the reach of the cell m gains amount × c(q - m); the others stay.
@@ -60,14 +54,12 @@ pub fn add_window(
 {
     let left = low(at.col, reach);
     let right = high(at.col, reach, width);
+    let top = low(at.row, reach);
     let bottom = high(at.row, reach, height);
     let side = 2 * reach + 1;
-    let n = right - left;
-    let mut y = low(at.row, reach);
-    while y < bottom {
+    for y in top..bottom {
         let to = y * width + left;
         let from = (y + reach - at.row) * side + (left + reach - at.col);
-        add_run(table, to, c, from, n, amount);
-        y += 1;
+        add_run(table, to, c, from, right - left, amount);
     }
 }

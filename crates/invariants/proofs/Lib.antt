@@ -5,5 +5,4 @@ pub mod Plate
 pub mod Partners
 pub mod Trials
 pub mod Scanning
-pub mod Refusal
 pub mod Reading

@@ -1,4 +1,5 @@
 -- Laws of the window update: the sizes of entries, and what windows make of a table.
+--   cleared                                    a table filled with 0
 --   small_tabulate, small_by, square_small     entries at most k from 0: of a list, of a table, of a square
 --   add_window_tabulate                         what one window makes of a table
 --   scattered_none, scattered_next             the table that many of them leave, one after the other
@@ -29,11 +30,16 @@ use Rattle.model.specs.Psf.{psf_at, autocorrelation}
 use Rattle.model.specs.Error.{Target, cells, row, kernel, most_filtered, filtered_error, filtered_errors}
 use Rattle.model.specs.Refusal.{HalftoneFits}
 use Rattle.invariants.specs.Window.{gain, add_window, scattered, Small, Scaled, HoldsKernel}
-use Rattle.model.proofs.Basic.{length-tabulate, get_d_tabulate, tabulate-each, tabulate-cong}
+use Rattle.model.proofs.Basic.{length-tabulate, get_d_tabulate, tabulate-each, tabulate-by, tabulate-cong}
 use Rattle.model.proofs.Basic.{square_map}
 use Rattle.model.proofs.Psf.{psf_entry}
 use Rattle.model.proofs.Change.{store_moves_table}
 use Rattle.model.proofs.Halftone.{filtered_most}
+
+-- ---- a table filled with 0
+pub cleared : (N : ℕ) {t : List ℤ} → t ≡ replicate N (pos 0) → t ≡ tabulate N (λ q. pos 0)
+cleared N e =
+    e ∙ tabulate-by (pos 0) N _ _ (length-replicate N (pos 0)) (λ q h. get_or-replicate N q (pos 0) (pos 0) h)
 
 -- ---- sizes
 pub small_tabulate : (k n : ℕ) (f : ℕ → ℤ) → ((q : ℕ) → q < n → nat_abs (f q) ≤ k) → Small k (tabulate n f)

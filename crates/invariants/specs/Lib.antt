@@ -4,5 +4,5 @@ pub mod Window
 pub mod Plate
 pub mod Partners
 pub mod Trials
-pub mod Refusal
 pub mod Reading
+pub mod Pictures

@@ -3,6 +3,7 @@
 use Rattle.std.specs.Prelude.{List, ◌≡◌, ℕ, ◌+◌, ◌*◌, ◌^◌, ◌≤◌, ◌<◌, ℤ, nat_abs, length, get_or}
 use Rattle.model.specs.declared.Cell.{Cell}
 use Rattle.model.specs.declared.Measures.{Measures}
+use Rattle.model.specs.declared.Setting.{Setting}
 use Rattle.model.specs.declared.Stats.{Stats}
 use Rattle.model.specs.Basic.{AtMost}
 use Rattle.model.specs.Error.{Target, target_for, cell_at, filtered_errors, most_squared}
@@ -28,6 +29,14 @@ module _ (m : Measures) (psf gray : List ℕ) (c : List ℤ) (dots : List ℕ) (
     pub later : LaterFits m psf gray dots table s
     pub kernel : HoldsKernel m.radius psf c
     pub bytes : AtMost 255 gray
+
+-- the same of what a plate is made for, as the code hands it on
+module _ (s : Setting) (c : List ℤ) (dots : List ℕ) (table : List ℤ) where
+  abbrev pub JudgedIn : Type 0
+  JudgedIn = Judged s.measures s.psf.now s.gray.now c dots table
+
+  abbrev pub ReadyIn : Stats → Type 0
+  ReadyIn = Ready s.measures s.psf.now s.gray.now c dots table
 
 -- a cell of the plate, or the first below it: where a scan under way stands
 pub record OnWay (m : Measures) (at : Cell) : Type 0 where

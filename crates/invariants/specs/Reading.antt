@@ -1,21 +1,46 @@
--- Reading a sheet part by part, as the code does: what was refused stays refused.
-use Rattle.std.specs.Prelude.{List, ◌++◌, ℕ, eqb}
-use Rattle.model.specs.declared.Field.{Field}
-use Rattle.model.specs.declared.FiledEnd.{FiledEnd}
+-- What the code answers of a text that it reads, as the definitions have it; and a filed sheet from a place on.
+use Rattle.std.specs.Prelude.{true, List, ◌++◌, ◌≡◌, ℕ, Result, Ok, Err, Option, Some, None}
+use Rattle.model.specs.declared.After.{After}
+use Rattle.model.specs.Format.{Field}
+use Rattle.model.specs.declared.FiledFigures.{FiledFigures}
 use Rattle.model.specs.declared.Measures.{Measures}
-use Rattle.model.specs.declared.Place.{Place}
-use Rattle.model.specs.Basic.{pick}
-use Rattle.model.specs.Format.{Part, body, field, field_at, parse, place_of, ended}
+use Rattle.model.specs.declared.PfmHeader.{PfmHeader}
+use Rattle.model.specs.PfmCalls.{PfmLines}
+use Rattle.model.specs.Format.{Place}
+use Rattle.model.specs.declared.Refused.{Refused}
+use Rattle.model.specs.Format.{body, field, parse, place, place_of, ended}
 use Rattle.model.specs.Filed.{figure_parts, filed_figures}
+use Rattle.model.specs.PfmCalls.{no_lines}
+use Rattle.model.specs.Reason.{number_of}
 
--- parts after what was read
-unfoldable pub parse_next : List Part → List ℕ → Place → Place
-parse_next ps s p = pick (eqb p.refusal 0) (place_of (parse ps s p.at)) p
+-- the place after what was read, or a refusal
+abbrev pub place_in : Result ℕ Refused → Place
+place_in (Ok at) = place 0 at
+place_in (Err r) = place (number_of r.reason) r.at
 
--- a number after what was read
-unfoldable pub field_next : (lo hi end : ℕ) → List ℕ → Field → Field
-field_next lo hi end s f =
-    pick (eqb f.refusal 0) (field_at lo hi end s f.at) (field f.refusal f.at 0)
+-- a number and the place after it, or a refusal
+abbrev pub field_in : Result (After ℕ) Refused → Field
+field_in (Ok a) = field 0 a.at a.value
+field_in (Err r) = field (number_of r.reason) r.at 0
+
+-- what is refused with a number at a place, 0 where it is not and its value and the place after it are as they must be
+abbrev pub ReadsAs : {A : Type 0} → Result (After A) Refused → (refusal at : ℕ) → (A → Type 0) → Type 0
+ReadsAs (Ok a) n o Holds = (n ≡ 0) × (o ≡ a.at) × Holds a.value
+ReadsAs (Err r) n o Holds = (n ≡ number_of r.reason) × (o ≡ r.at)
+
+-- the lines of a PFM where they are there, and what is found of them
+abbrev pub lines_at : After PfmHeader → PfmLines
+lines_at a = record { good = true; header = a.value; at = a.at }
+
+abbrev pub lines_in : Option (After PfmHeader) → PfmLines
+lines_in None = no_lines
+lines_in (Some a) = lines_at a
+
+-- how far a filed sheet is read, with its figures
+pub record FiledEnd : Type 0 where
+  pub refusal : ℕ
+  pub at : ℕ
+  pub figures : FiledFigures
 
 -- what follows line 2, from a place on: the end of the filed sheet with its figures, or the first refusal
 unfoldable pub filed_end : Measures → List ℕ → ℕ → FiledEnd

@@ -1,22 +1,15 @@
--- Bytes from an index on, as a loop takes them.
+-- Bytes taken one by one.
 --   bytes_from  the byte there, and those after it
---   byte_next   the same as a text to put
---   total_next  their sum
-use mathlib.Core.List.{List, [], ◌∷◌}
-use mathlib.Core.Path.{◌≡◌, ◌∙◌, ap}
-use Prim.Native.Nat.{ℕ, ◌+◌, ◌<◌}
-use native.Mathlib.Numerals.{add-one}
-use lib.ListN.{length, drop, get_or}
-use lib.Seq.{drop-cons}
+--   total_sum   the sum of bytes as the library has it
+use Rattle.std.proofs.Common.{List, [], ◌∷◌, ◌≡◌, ◌∙◌, ℕ, ◌+◌, ◌<◌, length, get_or, drop, refl, add-one, drop-cons, arith}
+use Rattle.std.specs.List.{sum}
+use Rattle.std.proofs.lemmas.List.Sums.{sum_by-cons}
 use Rattle.model.specs.Psf.{total}
-use Rattle.model.proofs.Puts.{Opens}
 
 pub bytes_from : (l : List ℕ) (i : ℕ) → i < length l → drop i l ≡ get_or l i 0 ∷ drop (i + 1) l
 bytes_from l i h = drop-cons l i 0 h ∙ rw add-one
 
-pub byte_next : (l : List ℕ) (i : ℕ) → i < length l → Opens (drop i l) (get_or l i 0 ∷ []) (drop (i + 1) l)
-byte_next l i h = record { is = bytes_from l i h }
-
-pub total_next : (l : List ℕ) (i : ℕ) → i < length l → total (drop i l) ≡ get_or l i 0 + total (drop (i + 1) l)
+pub total_sum : (l : List ℕ) → total l ≡ sum l
 unfolding total
-total_next l i h = ap total (bytes_from l i h)
+total_sum [] = refl
+total_sum (x ∷ l) = omega (arith, total_sum l, sum_by-cons (λ x. x) x l)

@@ -1,13 +1,9 @@
 -- `filter_correlate::correlate` meets its contract: after i entries the output is what their windows come to.
-use Prim.Native.Nat.{◌+◌, ◌*◌, ◌-◌, ◌≤◌}
+use Prim.Native.Nat.{◌+◌, ◌*◌}
 use mathlib.Core.Path.{◌≡◌}
-use lib.ListN.{length}
 use Rattle.model.specs.Basic.{tabulate}
 use Rattle.filter_correlate.specs.Scatter.{mirrored_at}
 use Rattle.filter_correlate.proofs.correlate.Given as goal
 
 abbrev pub invariant-loop-i : goal.invariant-loop-i
-invariant-loop-i l = (l.i ≤ length l.p) × (l.out ≡ tabulate ((4 * l.radius + 1) * (4 * l.radius + 1)) (mirrored_at l.radius l.p l.i))
-
-abbrev pub decreases-loop-i : goal.decreases-loop-i
-decreases-loop-i l = length l.p - l.i
+invariant-loop-i l = l.out ≡ tabulate ((4 * l.radius + 1) * (4 * l.radius + 1)) (mirrored_at l.radius l.p l.i)

@@ -2,14 +2,8 @@
 use Rattle.filter_passes.proofs.Passes.{plate_lies, widened_lies}
 use Rattle.filter_passes.proofs.gather.Goals as goal
 
-pub pass-requires : goal.pass-requires
-pass-requires c =
-    let s = c in
-    let (wide, narrow, fits, small) = s.requires.width_nonzero in
-    let (handed, lent) = s.requires.g_len in record {
-      width_nonzero = (wide, fits, small);
-      lies = (widened_lies _ _ _ narrow fits.near handed, plate_lies _ _ _ narrow lent);
-    }
-
-pub returns : goal.returns
-returns c = let s = c in rw s.requires.g_len.1 at c.pass.ensures
+pub pass-requires-clause-lies : goal.pass-requires-clause-lies
+pass-requires-clause-lies c =
+    let (wide, narrow, fits, small) = c.requires.width_nonzero in
+    let (handed, lent) = c.requires.g_len in
+    (widened_lies _ _ _ narrow fits.near handed, plate_lies _ _ _ narrow lent)

@@ -1,13 +1,9 @@
 -- `filter_passes::pass` meets its contract: after k entries of the psf the output is what they come to.
 use mathlib.Core.Path.{◌≡◌}
-use Prim.Native.Nat.{◌-◌, ◌≤◌}
 use lib.ListN.{length}
 use Rattle.model.specs.Basic.{tabulate}
 use Rattle.filter_passes.specs.Passes.{passed_at}
 use Rattle.filter_passes.proofs.pass.Given as goal
 
 abbrev pub invariant-loop-k : goal.invariant-loop-k
-invariant-loop-k l = (l.k ≤ length l.psf) × (l.out ≡ tabulate (length l.initial.out) (passed_at l.width l.height l.radius l.psf l.from l.to l.c l.k))
-
-abbrev pub decreases-loop-k : goal.decreases-loop-k
-decreases-loop-k l = length l.psf - l.k
+invariant-loop-k l = l.out ≡ tabulate (length l.initial.out) (passed_at l.width l.height l.radius l.psf l.from l.to l.c l.k)

@@ -1,5 +1,4 @@
 -- `filter_sums::errors` meets its contract: the entries passed are the errors.
-use Prim.Native.Nat.{◌≤◌, ◌-◌}
 use lib.IntN.{pos}
 use lib.ListN.{length}
 use Rattle.model.specs.Error.{error_of}
@@ -7,7 +6,4 @@ use Rattle.model.proofs.Basic.{Filling}
 use Rattle.filter_sums.proofs.errors.Given as goal
 
 abbrev pub invariant-loop-n : goal.invariant-loop-n
-invariant-loop-n l = (l.n ≤ length l.gray) × Filling (pos 0) (error_of 255 l.gray l.dots) (length l.gray) l.n l.out
-
-abbrev pub decreases-loop-n : goal.decreases-loop-n
-decreases-loop-n l = length l.gray - l.n
+invariant-loop-n l = Filling (pos 0) (error_of 255 l.gray l.dots) (length l.gray) l.n l.out

@@ -1,27 +1,25 @@
 -- `filter_sums::filter` meets its contract: the errors, spread by the first pass and gathered by the second, come to
 -- the table.
 use mathlib.Core.Path.{◌≡◌, sym, ◌∙◌, ap, subst}
-use mathlib.Core.List.{List, ◌++◌}
+use mathlib.Core.List.{List}
 use Prim.Native.Nat.{ℕ, ◌+◌, ◌*◌, ◌≤◌}
 use native.Mathlib.Nat.{mul-le-mul}
 use native.Mathlib.Omega.{arith}
 use lib.IntN.{ℤ, pos}
-use lib.ListN.{length, take, drop, replicate, length-append}
-use lib.Seq.{take_at}
-use mir.Facts.{Fits-le, Fits-lit}
+use lib.ListN.{length, take, replicate}
 use Rattle.model.specs.Basic.{tabulate, AtMost}
 use Rattle.model.specs.Error.{error_of}
 use Rattle.model.proofs.Basic.{table_long, part_whole}
-use Rattle.model.proofs.Halftone.{few_cells}
 use Rattle.invariants.specs.Window.{Small}
+use Rattle.invariants.proofs.Plate.{slice_bytes}
 use Rattle.filter_passes.specs.Passes.{spread, most_spread, plate, widened}
 use Rattle.filter_passes.proofs.Passes.{errors_small, passed_long, passed_small, gathered_is}
 use Rattle.filter_sums.specs.Sums.{most_widened, errors_of}
 use Rattle.filter_sums.proofs.filter.Goals as goal
 use Rattle.filter_sums.proofs.filter.Goals.{Start}
 
--- the widened plate
 module _ (s : Start) where
+  -- the widened plate
   abbrev n : ℕ
   n = (s.args.height + 2 * s.args.radius) * (s.args.width + 2 * s.args.radius)
 
@@ -31,9 +29,8 @@ module _ (s : Start) where
       mul-le-mul {n₂ = 262} {m₂ = 262}
       (omega (arith, f.high.1, f.psf_fits.near)) (omega (arith, f.wide.1, f.psf_fits.near))
 
-  -- what is left of the array behind it
-  abbrev rest : List ℤ
-  rest = drop n (replicate most_widened (pos 0))
+  lent-long : n ≡ length (take n (replicate most_widened (pos 0)))
+  lent-long = part_whole n (replicate most_widened (pos 0)) few
 
   -- the errors, and those errors spread
   abbrev e : List ℤ
@@ -47,98 +44,59 @@ module _ (s : Start) where
       passed_long s.args.width s.args.height s.args.radius s.args.psf.now
       (plate s.args.width) (widened s.args.width s.args.radius) e n
 
-pub overflow_mul-n-3 : goal.overflow_mul-n-3
-overflow_mul-n-3 c = let s : Start = search in Fits-le (few s) (Fits-lit tt)
+  -- what `errors` left, and then `spread`
+  module _ {errors : List ℤ} (left : errors ≡ errors_of s.args.gray.now s.args.dots.now) where
+    errors-are : errors ≡ e
+    errors-are = left ∙ ap (λ n. tabulate n (error_of 255 s.args.gray.now s.args.dots.now)) s.requires.gray_length
 
-pub errors-requires : goal.errors-requires
-errors-requires c =
-    let s = c in
-    let f = s.requires in
-    record {
-      dots_long = f.dots_length ∙ sym f.gray_length;
-      long = f.table_length ∙ sym f.gray_length;
-      few = omega (arith, few_cells f, f.gray_length);
-      bits = f.bits;
-    }
+    spread-is : {out : List ℤ} → out ≡ spread s.args.width s.args.height s.args.radius s.args.psf.now errors
+        → out ≡ around
+    spread-is ran = rw errors-are at ran
 
--- what `errors` left
-errors-are : (s : Start) (out : List ℤ) → out ≡ errors_of s.args.gray.now s.args.dots.now → out ≡ e s
-errors-are s out h = h ∙ ap (λ n. tabulate n (error_of 255 s.args.gray.now s.args.dots.now)) s.requires.gray_length
+  small : AtMost 255 s.args.gray.now → Small 255 e
+  small bytes =
+      let a = s.args in
+      errors_small a.width a.height a.radius a.psf.now a.gray.now a.dots.now s.requires bytes
 
-small : (s : Start) → AtMost 255 s.args.gray.now → Small 255 (e s)
-small s bytes =
-    let a = s.args in
-    errors_small a.width a.height a.radius a.psf.now a.gray.now a.dots.now s.requires bytes
+pub slice_bounds-around-end : goal.slice_bounds-around-end
+slice_bounds-around-end c = lent-long search
 
-pub slice_bounds-g-end : goal.slice_bounds-g-end
-slice_bounds-g-end c = let s : Start = search in few s
-
-pub slice_bounds-spread-end : goal.slice_bounds-spread-end
-slice_bounds-spread-end c =
+pub spread-requires-clause-width_nonzero : goal.spread-requires-clause-width_nonzero
+spread-requires-clause-width_nonzero c =
     let s : Start = search in
-    part_whole (n s) (replicate most_widened (pos 0)) (few s)
+    let f = c.requires in
+    let are = errors-are s c.errors.ensures in
+    (f.wide.0, f.wide.1, f.psf_fits, subst (Small 255) (sym are) (small s (slice_bytes c.type_inv.gray)))
 
-pub spread-requires : goal.spread-requires
-spread-requires c =
+pub spread-requires-clause-e_len : goal.spread-requires-clause-e_len
+spread-requires-clause-e_len c =
     let s : Start = search in
-    let f = s.requires in
-    let are = errors-are s c.errors.new.out c.errors.ensures in
-    let bytes : AtMost 255 s.args.gray.now = record { each = λ i. omega (arith, c.type_inv.gray i) } in record {
-      width_nonzero = (f.wide.0, f.wide.1, f.psf_fits, subst (Small 255) (sym are) (small s bytes));
-      e_len = (table_long _ _ are, sym (part_whole (n s) (replicate most_widened (pos 0)) (few s)));
-    }
+    (table_long _ _ (errors-are s c.errors.ensures), sym (lent-long s))
 
--- what `spread` left
-module _ (s : Start) (out left : List ℤ) (are : out ≡ e s)
-    (ran : left ≡ spread s.args.width s.args.height s.args.radius s.args.psf.now out) where
-  left_is : left ≡ around s
-  left_is = rw are at ran
-
-  left-long : length left ≡ n s
-  left-long = ap length left_is ∙ around-long s
-
-  -- the part that is lent on
-  part-is : take (n s) (left ++ rest s) ≡ around s
-  part-is = take_at left (rest s) (n s) left-long ∙ left_is
-
-  enough : n s ≤ length (left ++ rest s)
-  enough = simp length-append (omega (arith, left-long))
-
-pub slice_bounds-g-end-2 : goal.slice_bounds-g-end-2
-slice_bounds-g-end-2 c =
+pub gather-requires-clause-width_nonzero : goal.gather-requires-clause-width_nonzero
+gather-requires-clause-width_nonzero c =
     let s : Start = search in
-    enough s c.errors.new.out c.spread.new.out (errors-are s c.errors.new.out c.errors.ensures) c.spread.ensures
-
-pub slice_bounds-gather-end : goal.slice_bounds-gather-end
-slice_bounds-gather-end c =
-    let s : Start = search in
-    part_whole _ _
-    (enough s c.errors.new.out c.spread.new.out (errors-are s c.errors.new.out c.errors.ensures) c.spread.ensures)
-
-pub gather-requires : goal.gather-requires
-gather-requires c =
-    let s : Start = search in
-    let a = s.args in
-    let f = s.requires in
-    let are = errors-are s c.errors.new.out c.errors.ensures in
-    let part = part-is s c.errors.new.out c.spread.new.out are c.spread.ensures in
-    let bytes : AtMost 255 s.args.gray.now = record { each = λ i. omega (arith, c.type_inv.gray i) } in
-    let all_small : Small most_spread (around s)
-    = passed_small a.width a.height a.radius a.psf.now
+    let a = c.args in
+    let f = c.requires in
+    let is = spread-is s c.errors.ensures c.spread.ensures in
+    let all_small =
+    passed_small a.width a.height a.radius a.psf.now
     (plate a.width) (widened a.width a.radius) (e s) _ f.wide.0
-    (small s bytes) f.psf_fits.sum_high in record {
-      width_nonzero = (f.wide.0, f.wide.1, f.psf_fits, subst (Small most_spread) (sym part) all_small);
-      g_len = (ap length part ∙ around-long s, table_long _ _ are);
-    }
+    (small s (slice_bytes c.type_inv.gray)) f.psf_fits.sum_high in
+    (f.wide.0, f.wide.1, f.psf_fits, subst (Small most_spread) (sym is) all_small)
+
+pub gather-requires-clause-g_len : goal.gather-requires-clause-g_len
+gather-requires-clause-g_len c =
+    let s : Start = search in (
+      ap length (spread-is s c.errors.ensures c.spread.ensures) ∙ around-long s,
+      table_long _ _ (errors-are s c.errors.ensures),
+    )
 
 pub returns : goal.returns
 returns c =
     let s : Start = search in
-    let a = s.args in
-    let f = s.requires in
-    let are = errors-are s c.errors.new.out c.errors.ensures in
-    let part = part-is s c.errors.new.out c.spread.new.out are c.spread.ensures in
+    let a = c.args in
     let is =
-    gathered_is a.width a.height a.radius a.psf.now a.gray.now a.dots.now f.wide.0
-    f.psf_fits.square in
-    rw (part, is) at c.gather.ensures
+    gathered_is a.width a.height a.radius a.psf.now a.gray.now a.dots.now c.requires.wide.0
+    c.requires.psf_fits.square in
+    rw (spread-is s c.errors.ensures c.spread.ensures, is) at c.gather.ensures

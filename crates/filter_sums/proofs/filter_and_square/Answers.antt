@@ -13,13 +13,10 @@ use Rattle.filter_sums.proofs.filter_and_square.Goals as goal
 
 pub weigh-requires : goal.weigh-requires
 weigh-requires c =
-    let s = c in
-    let k = c in
-    let known = c in
-    let a = s.args in
+    let a = c.args in
     let t = target_of a.width a.height a.radius a.psf.now a.gray.now in
-    let f = s.requires in
-    let is = k.filter.ensures in (
+    let f = c.requires in
+    let is = c.filter.ensures in (
       record {
         dots_long = f.dots_length ∙ sym f.gray_length;
         long =
@@ -32,14 +29,12 @@ weigh-requires c =
 
 pub returns : goal.returns
 returns c =
-    let s = c in
-    let k = c in
-    let a = s.args in
+    let a = c.args in
     let t = target_of a.width a.height a.radius a.psf.now a.gray.now in
-    let is = k.filter.ensures in (
+    let is = c.filter.ensures in (
       is,
       read_back w64 c.weigh.result c.weigh.type_inv
           ∙ c.weigh.ensures
           ∙ ap (weighed a.gray.now a.dots.now) {y = filtered_errors t a.dots.now} is
-          ∙ weighed_is t a.dots.now s.requires.gray_length,
+          ∙ weighed_is t a.dots.now c.requires.gray_length,
     )
