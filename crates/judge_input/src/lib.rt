@@ -1,50 +1,40 @@
 // The lists of refusals because of the input, 1 to 7 and 16, of each call that is not a reader: each function answers
-// the number of the first that is drawn, 0 for none.
+// the first that is drawn.
 #![tactic(auto)]
 
-ghost use Rattle.std.specs.Prelude.{[], ◌∷◌, ◌≡◌};
+ghost use Rattle.std.specs.Prelude.{[], ◌∷◌, ◌≡◌, length};
+ghost use Rattle.model.specs.Reason.{drawn};
 ghost use Rattle.model.specs.Refusal.{first_of, handed, input_refusals};
 ghost use Rattle.model.specs.Refusal.{autocorrelation_refusal, halftone_refusal, start_refusal, write_refusal};
 
 use judge_parts::{
-    first, judge_all_measures, judge_dots, judge_given, judge_given_locks, judge_lengths,
-    judge_locks, judge_measures, judge_slices,
+    judge_all_measures, judge_dots, judge_lengths, judge_locks, judge_measures, judge_slices,
 };
-use model::Measures;
+use model::{Reason, Setting};
 
-// 1 to 6, of a call that is handed all five measures
-pub fn judge_handed(measures: Measures, psf: &[u8], gray: usize, dots: usize, table: usize) -> u32
-    ensures { result ≡ first_of (handed measures psf.now (gray ∷ dots ∷ table ∷ [])) }
+// 1 to 6, of a call that is handed all five measures, with dots and a table of these lengths
+fn judge_handed(setting: Setting, dots: usize, table: usize) -> Result<(), Reason>
+    ensures { drawn result ≡ first_of
+        (handed setting.entry.measures setting.entry.psf.now (length setting.entry.gray.now ∷ dots ∷ table ∷ [])) }
 {
-    let number = judge_all_measures(measures);
-    if number != 0 {
-        return number;
-    }
-    judge_slices(
-        measures.radius,
-        psf,
-        measures.height * measures.width,
-        gray,
-        dots,
-        table,
-    )
+    let m = setting.measures;
+    judge_all_measures(m)?;
+    let gray = setting.gray.len();
+    judge_slices(m.radius, setting.psf, m.height * m.width, gray, dots, table)
 }
 
 // 1 to 7 and 16, of a call that is handed a table of that length and a ledger
-pub fn judge_later(measures: Measures, psf: &[u8], gray: &[u8], dots: &[u8], table: usize) -> u32
-    ensures { result ≡ first_of
-        (input_refusals measures psf.now gray.now dots.now table) }
+pub fn judge_later(setting: Setting, dots: &[u8], table: usize) -> Result<(), Reason>
+    ensures { drawn result ≡ first_of
+        (input_refusals setting.entry.measures setting.entry.psf.now setting.entry.gray.now dots.now table) }
 {
-    let input = judge_handed(measures, psf, gray.len(), dots.len(), table);
-    if input != 0 {
-        return input;
-    }
-    let bytes = judge_dots(dots);
-    let locks = judge_locks(gray, dots);
-    first(bytes, locks)
+    judge_handed(setting, dots.len(), table)?;
+    judge_dots(dots)?;
+    judge_locks(setting.gray, dots)
 }
 
 // the whole list of the filtered error, handed a table of that length
+#[tactic(auto, unfolding(model::specs::Refusal::halftone_refusal))]
 pub fn judge_halftone(
     width: usize,
     height: usize,
@@ -53,55 +43,49 @@ pub fn judge_halftone(
     gray: &[u8],
     dots: &[u8],
     table: usize,
-) -> u32
-    ensures { result ≡ halftone_refusal width height radius
+) -> Result<(), Reason>
+    ensures { drawn result ≡ halftone_refusal width height radius
         psf.now gray.now dots.now (table ∷ []) }
 {
-    let measures = judge_measures(width, height, radius);
-    if measures != 0 {
-        return measures;
-    }
-    let slices = judge_slices(radius, psf, height * width, gray.len(), dots.len(), table);
-    let bytes = judge_dots(dots);
-    first(slices, bytes)
+    judge_measures(width, height, radius)?;
+    judge_slices(radius, psf, height * width, gray.len(), dots.len(), table)?;
+    judge_dots(dots)
 }
 
 // the whole list of the autocorrelation, handed an output of that length
-pub fn judge_autocorrelation(radius: usize, psf: &[u8], out: usize) -> u32
-    ensures { result ≡ autocorrelation_refusal radius psf.now out }
+#[tactic(auto, unfolding(model::specs::Refusal::autocorrelation_refusal))]
+pub fn judge_autocorrelation(radius: usize, psf: &[u8], out: usize) -> Result<(), Reason>
+    ensures { drawn result ≡ autocorrelation_refusal radius psf.now out }
 {
     if 3 < radius {
-        return 2;
+        return Err(Reason::Radius);
     }
     let side = 4 * radius + 1;
     judge_slices(radius, psf, side * side, out, out, out)
 }
 
-// the whole list of a start, handed a table of that length
-pub fn judge_start(measures: Measures, psf: &[u8], gray: &[u8], dots: &[u8], table: usize) -> u32
-    ensures { result ≡ start_refusal measures
-        psf.now gray.now dots.now table }
+// the whole list of a start, handed a table of that length: kind 2 alone takes the dots given
+#[tactic(auto, unfolding(model::specs::Refusal::start_refusal))]
+pub fn judge_start(setting: Setting, dots: &[u8], table: usize) -> Result<(), Reason>
+    ensures { drawn result ≡ start_refusal setting.entry.measures
+        setting.entry.psf.now setting.entry.gray.now dots.now table }
 {
-    let input = judge_handed(measures, psf, gray.len(), dots.len(), table);
-    if input != 0 {
-        return input;
+    if setting.measures.start == 2 {
+        return judge_later(setting, dots, table);
     }
-    let given = judge_given(measures.start, dots);
-    let locks = judge_given_locks(measures.start, gray, dots);
-    first(given, locks)
+    judge_handed(setting, dots.len(), table)
 }
 
 // the whole list of the writer of a sheet
-pub fn judge_sheet(measures: Measures, psf: &[u8], gray: &[u8], dots: &[u8]) -> u32
-    ensures { result ≡ write_refusal measures psf.now gray.now dots.now }
+#[tactic(auto, unfolding(model::specs::Refusal::write_refusal))]
+pub fn judge_sheet(setting: Setting, dots: &[u8]) -> Result<(), Reason>
+    ensures { drawn result ≡ write_refusal setting.entry.measures
+        setting.entry.psf.now setting.entry.gray.now dots.now }
 {
-    let number = judge_all_measures(measures);
-    if number != 0 {
-        return number;
-    }
-    let cells = measures.height * measures.width;
-    let given = dots.len();
-    let lengths = judge_lengths(measures.radius, psf, cells, gray.len(), given, given);
-    let bytes = judge_dots(dots);
-    first(lengths, bytes)
+    let m = setting.measures;
+    judge_all_measures(m)?;
+    let cells = m.height * m.width;
+    let (gray, given) = (setting.gray.len(), dots.len());
+    judge_lengths(m.radius, setting.psf, cells, gray, given, given)?;
+    judge_dots(dots)
 }

@@ -1,2 +1,2 @@
--- What the proof of 21 needs.
+-- What the judges of 20 and 21 rest on.
 pub mod Tests

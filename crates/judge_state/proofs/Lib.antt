@@ -1,2 +1,2 @@
--- What the proofs of 20 share.
+-- 20: a table compared with one that is worked out afresh.
 pub mod Fresh

@@ -2,61 +2,33 @@
 // ledger (21).
 #![tactic(auto)]
 
-ghost use Rattle.std.specs.Prelude.{◌≡◌, pos, length, get_or};
-ghost use Rattle.model.specs.Error.{target_for};
-ghost use Rattle.model.specs.Ledger.{unequal};
+ghost use Rattle.std.specs.Prelude.{◌≡◌, length};
+ghost use Rattle.model.specs.Reason.{drawn};
 ghost use Rattle.model.specs.Refusal.{first_of, HalftoneFits};
+ghost use Rattle.model.specs.Setting.{target_in};
 ghost use Rattle.model.specs.State.{state_refusals};
-ghost use Rattle.model.specs.Basic.{some_below};
 
 use filter_sums::filter_and_square;
 use judge_ledger::judge_ledger;
-use model::{MOST_CELLS, Measures, Stats};
+use judge_parts::known_bytes;
+use model::{MOST_CELLS, Reason, Setting, Stats};
 use slices::sum;
 
-// whether an entry differs
-fn differ(table: &[i32], fresh: &[i32]) -> bool
-    requires { length fresh.now ≡ length table.now }
-    ensures { result ≡ some_below (length table.now) (λ m.
-        unequal (get_or table.now m (pos 0)) (get_or fresh.now m (pos 0))) }
-{
-    let mut m: usize = 0;
-    while m < table.len() {
-        if table[m] != fresh[m] {
-            return true;
-        }
-        m += 1;
-    }
-    false
-}
-
 // 20 and 21, of a judged plate
-pub fn judge_state(
-    measures: Measures,
-    psf: &[u8],
-    gray: &[u8],
-    dots: &[u8],
-    table: &[i32],
-    stats: Stats,
-) -> u32
-    requires { HalftoneFits (target_for measures psf.now gray.now) dots.now (length table.now) }
-    ensures { result ≡ first_of (state_refusals measures psf.now gray.now
-        dots.now table.now stats) }
+pub fn judge_state(setting: Setting, dots: &[u8], table: &[i32], stats: Stats) -> Result<(), Reason>
+    requires { HalftoneFits (target_in setting) dots.now (length table.now) }
+    ensures { drawn result ≡ first_of (state_refusals setting.entry.measures
+        setting.entry.psf.now setting.entry.gray.now dots.now table.now stats) }
 {
-    let mut fresh = [0i32; MOST_CELLS];
-    let n = table.len();
-    let error = filter_and_square(
-        measures.width,
-        measures.height,
-        measures.radius,
-        psf,
-        gray,
-        dots,
-        &mut fresh[..n],
-    );
-    if differ(table, &fresh[..n]) {
-        return 20;
+    let m = setting.measures;
+    let (psf, gray) = (setting.psf, setting.gray);
+    // so that the squared error is one that `judge_ledger` takes
+    known_bytes(gray);
+    let mut worked = [0i32; MOST_CELLS];
+    let fresh = &mut worked[..table.len()];
+    let error = filter_and_square(m.width, m.height, m.radius, psf, gray, dots, fresh);
+    if table != fresh {
+        return Err(Reason::Table);
     }
-    let count = sum(dots);
-    judge_ledger(n, error, count, stats)
+    judge_ledger(table.len(), error, sum(dots), stats)
 }

@@ -1,2 +1,2 @@
--- What the proofs of the later calls' judges share.
+-- What the judges of the later calls rest on.
 pub mod Lists

@@ -1,55 +1,37 @@
--- The list of a later call, judged part by part: 1 to 7 and 16 (the input), 8 and 9 (the cells named), then 20, 21, 23
--- and 22.
+-- What the judges of the later calls rest on.
 --   input_fits  where none of 1 to 7 and 16 is drawn the plate fits
---   by_input    one of these is drawn
---   by_named    none of these, and one of 8 and 9
---   by_rest     none of these: the rest decides
-use mathlib.Core.List.{List, ◌++◌}
-use mathlib.Core.Path.{◌≡◌}
-use Prim.Native.Nat.{ℕ}
-use lib.Dec.{T}
-use lib.IntN.{ℤ}
-use lib.ListN.{length}
-use Rattle.model.specs.declared.Measures.{Measures}
-use Rattle.model.specs.declared.Stats.{Stats}
-use Rattle.model.specs.Error.{target_for}
-use Rattle.model.specs.Refusal.{Refusal, first_of, input_refusals, HalftoneFits}
-use Rattle.model.specs.State.{Asked, state_refusals}
-use Rattle.model.proofs.Refusal.{numbered, none, by_first, by_second, plate_fits}
+--   on, both_on where 8 is not drawn, the place of a cell that is named is one of a slice as long as the cells
+use mathlib.Core.List.{List, [], ◌∷◌}
+use mathlib.Core.Path.{◌≡◌, refl}
+use Prim.Native.Nat.{ℕ, ◌*◌, ◌<◌}
+use Rattle.algebra.proofs.Grid.{cell<}
+use Rattle.model.specs.declared.Setting.{Setting}
+use Rattle.model.specs.Error.{cell_at}
+use Rattle.model.specs.Refusal.{first_of, off, bad_cell, bad_cells, input_refusals, HalftoneFits}
+use Rattle.model.specs.Setting.{target_in}
+use Rattle.model.proofs.Basic.{neither}
+use Rattle.model.proofs.Refusal.{none, plate_fits}
+use Rattle.model.proofs.Later.{cell_inside}
 
--- what such a call is handed
-pub record Later : Type 0 where
-  pub measures : Measures
-  pub psf : List ℕ
-  pub gray : List ℕ
-  pub dots : List ℕ
-  pub table : List ℤ
-  pub stats : Stats
+pub input_fits : (g : Setting) (dots : List ℕ) (table : ℕ)
+    → 0 ≡ first_of (input_refusals g.measures g.psf.now g.gray.now dots table)
+    → HalftoneFits (target_in g) dots table
+input_fits g dots table e =
+    let input = input_refusals g.measures g.psf.now g.gray.now dots table in
+    (plate_fits g.measures g.psf.now g.gray.now dots table (none input tt e refl)).0.halftone
 
-module _ (h : Later) where
-  abbrev input : List Refusal
-  input = input_refusals h.measures h.psf h.gray h.dots (length h.table)
+module _ (w h row col : ℕ) where
+  pub on : 0 ≡ first_of (bad_cell w h row col ∷ []) → {n m : ℕ} → n ≡ h * w → m ≡ cell_at w row col → m < n
+  on e long is =
+      let (inside, _) = none (bad_cell w h row col ∷ []) tt e refl in
+      let (r, c) = cell_inside w h row col inside in
+      rw (is, long) (cell< r c)
 
-  abbrev pub state : List Refusal
-  state = state_refusals h.measures h.psf h.gray h.dots h.table h.stats
-
-  abbrev pub Fits : Type 0
-  Fits = HalftoneFits (target_for h.measures h.psf h.gray) h.dots (length h.table)
-
-  pub input_fits : {x : ℕ} → x ≡ first_of input → x ≡ 0 → Fits
-  input_fits e z =
-      (plate_fits h.measures h.psf h.gray h.dots (length h.table) (none input tt e z)).0.halftone
-
-  module _ (a : Asked) {x : ℕ} (e : x ≡ first_of input) where
-    abbrev rest : List Refusal
-    rest = state ++ a.last
-
-    pub by_input : (x ≡ 0 → ⊥) → x ≡ first_of (input ++ (a.named ++ rest))
-    by_input h = by_first input (a.named ++ rest) tt e h
-
-    module _ (z : x ≡ 0) (t : T (numbered a.named)) {y : ℕ} (f : y ≡ first_of a.named) where
-      pub by_named : (y ≡ 0 → ⊥) → y ≡ first_of (input ++ (a.named ++ rest))
-      by_named h = by_second input (a.named ++ rest) tt e z (by_first a.named rest t f h)
-
-      pub by_rest : y ≡ 0 → {n : ℕ} → n ≡ first_of rest → n ≡ first_of (input ++ (a.named ++ rest))
-      by_rest w g = by_second input (a.named ++ rest) tt e z (by_second a.named rest t f w g)
+  pub both_on : (row' col' : ℕ) → 0 ≡ first_of (bad_cells w h row col row' col' ∷ []) → {n m k : ℕ} → n ≡ h * w
+      → m ≡ cell_at w row col → k ≡ cell_at w row' col' → (m < n) × (k < n)
+  both_on row' col' e long is is' =
+      let (inside, _) = none (bad_cells w h row col row' col' ∷ []) tt e refl in
+      let (one, other) = neither (off w h row col) (off w h row' col') inside in
+      let (r, c) = cell_inside w h row col one in
+      let (r', c') = cell_inside w h row' col' other in
+      (rw (is, long) (cell< r c), rw (is', long) (cell< r' c'))

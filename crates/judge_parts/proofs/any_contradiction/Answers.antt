@@ -1,43 +1,26 @@
 -- `judge_parts::any_contradiction` meets its contract. The loop's invariant: whether one of the cells passed does.
-use mathlib.Core.Bool.{◌||◌}
-use mathlib.Core.Path.{◌≡◌, refl, ◌∙◌, ap, ap₂}
-use Prim.Native.Nat.{◌*◌}
-use native.Mathlib.Numerals.{add-one}
-use native.Mathlib.Omega.{arith}
+use Rattle.std.proofs.Common.{sym, ◌∙◌, ap₂, ℕ, ◌||◌, length, add-one, rules}
+use Rattle.std.proofs.lemmas.List.{length_push}
 use Rattle.model.specs.Basic.{some_below}
 use Rattle.model.specs.Lock.{locked}
+use Rattle.judge_parts.proofs.Lists.{left_next}
 use Rattle.judge_parts.proofs.any_contradiction.Goals as goal
-use Rattle.judge_parts.proofs.any_contradiction.Goals.{At-loop-n, Start}
-use Rattle.judge_parts.proofs.any_contradiction.Invariants.{test}
 
-pub loop-n-init : goal.loop-n-init
+pub loop-gray-init : goal.loop-gray-init
 unfolding some_below
-loop-n-init c = (omega arith, refl)
+loop-gray-init c = search rules
 
-pub bounds-gray-n : goal.bounds-gray-n
-bounds-gray-n c = omega arith
-
-pub bounds-dots-n : goal.bounds-dots-n
-bounds-dots-n c = let s = (goal.at.bounds-dots-n c).Start in omega (arith, s.requires)
-
-pub contradicts-any-requires : goal.contradicts-any-requires
-contradicts-any-requires c = tt
-
-pub overflow_add-n : goal.overflow_add-n
-overflow_add-n c = omega arith
-
-pub loop-n-smaller : goal.loop-n-smaller
-loop-n-smaller c = omega arith
-
-pub loop-n-preserved : goal.loop-n-preserved
+pub loop-gray-preserved : goal.loop-gray-preserved
 unfolding some_below locked
-loop-n-preserved c =
-    let l = (goal.at.loop-n-preserved c).At-loop-n in
-    (omega arith, rw add-one (ap₂ ◌||◌ l.loop-n.invariant.1 c.contradicts-any.ensures))
-
-pub returns : goal.returns
-returns c w h r psf e =
-    let l = (goal.at.returns c).At-loop-n in
-    let s = (goal.at.returns c).Start in
-    let is : l.loop-n.n ≡ h * w = omega arith in
-    l.loop-n.invariant.1 ∙ ap (λ n. some_below n (test s.args.gray.now s.args.dots.now)) is
+loop-gray-preserved c =
+    let n : ℕ = length c.loop-gray.yielded in
+    let l = c.loop-gray.invariant in
+    let (first, second) = c.in-Some.ensures.steps in
+    let (within, gray, gray_left) = left_next c.args.gray.now n (sym l.gray_left ∙ first) in
+    let (_, dot, dots_left) = left_next c.args.dots.now n (sym l.dots_left ∙ second) in
+    rw (length_push, add-one) (record {
+      within = within;
+      gray_left = gray_left;
+      dots_left = dots_left;
+      any_is = rw (gray, dot) (ap₂ ◌||◌ l.any_is c.contradicts-any.ensures);
+    })
