@@ -9,7 +9,7 @@ ghost use Rattle.model.specs.Ledger.{fresh_stats};
 ghost use Rattle.model.specs.Lock.{locked_gray, locked_byte};
 ghost use Rattle.model.specs.Screen.{thresholds, threshold_at, blank, screened, ordered, start_dots};
 
-use model::{Figures, Measures, Stats};
+use model::{Figures, Setting, Stats};
 use slices::sum;
 
 // the thresholds, row by row
@@ -44,10 +44,7 @@ fn threshold(array: &[u8], row: usize, col: usize) -> u8
 fn screen(gray: u8, threshold: u8) -> u8
     ensures { result ≡ screened gray threshold }
 {
-    if 256 * (gray as u32) > 255 * (threshold as u32) {
-        return 1;
-    }
-    0
+    u8::from(256 * u32::from(gray) > 255 * u32::from(threshold))
 }
 
 // by the thresholds: cell n stands at (row, col)
@@ -56,12 +53,10 @@ fn order(array: &[u8], width: usize, gray: &[u8], dots: &mut [u8])
     requires width_nonzero { (0 < width) × (length dots.old ≡ length gray.now) }
     ensures { dots.new ≡ tabulate (length gray.now) (ordered width gray.now) }
 {
-    let mut row: usize = 0;
-    let mut col: usize = 0;
-    let mut n: usize = 0;
-    while n < gray.len() {
+    let mut row = 0;
+    let mut col = 0;
+    for n in 0..gray.len() {
         dots[n] = screen(gray[n], threshold(array, row, col));
-        n += 1;
         col += 1;
         if col == width {
             col = 0;
@@ -74,7 +69,7 @@ fn order(array: &[u8], width: usize, gray: &[u8], dots: &mut [u8])
 fn blank_dot(gray: u8) -> u8
     ensures { result ≡ pick (locked_gray gray) (locked_byte 1 gray) 0 }
 {
-    if gray == 255 { 1 } else { 0 }
+    u8::from(gray == 255)
 }
 
 // all blank that is not locked
@@ -82,29 +77,26 @@ fn blank_dots(gray: &[u8], dots: &mut [u8])
     requires { length dots.old ≡ length gray.now }
     ensures { dots.new ≡ tabulate (length gray.now) (blank gray.now) }
 {
-    let mut n: usize = 0;
-    while n < gray.len() {
+    for n in 0..gray.len() {
         dots[n] = blank_dot(gray[n]);
-        n += 1;
     }
 }
 
-// the dots of a start of judged measures
-pub fn start_dots(measures: Measures, gray: &[u8], dots: &mut [u8])
-    requires width_nonzero { 0 < measures.width }
-    requires gray_len { (length gray.now ≡ measures.height * measures.width)
-        × (length dots.old ≡ measures.height * measures.width) }
-    ensures { dots.new ≡ start_dots measures gray.now dots.old }
+// The dots of a start of judged measures. The kind is a number, since calls are handed any and refuse it with 4.
+pub fn start_dots(setting: Setting, dots: &mut [u8])
+    requires width_nonzero { 0 < setting.measures.width }
+    requires gray_len { (length setting.gray.now ≡ setting.measures.height * setting.measures.width)
+        × (length dots.old ≡ setting.measures.height * setting.measures.width) }
+    ensures { dots.new ≡ start_dots setting.entry.measures setting.entry.gray.now dots.old }
 {
-    let kind = measures.start;
-    match kind {
-        0 => blank_dots(gray, dots),
-        1 => order(&THRESHOLDS, measures.width, gray, dots),
+    match setting.measures.start {
+        0 => blank_dots(setting.gray, dots),
+        1 => order(&THRESHOLDS, setting.measures.width, setting.gray, dots),
         _ => {}
     }
 }
 
-// the fresh ledger of dots with that squared error
+// The fresh ledger of dots with that squared error
 pub fn fresh(dots: &[u8], squared: i64) -> Stats
     requires { length dots.now ≤ most_cells }
     ensures { (t : Target) → squared ≡ squared_error t dots.now → result ≡ fresh_stats t dots.now }

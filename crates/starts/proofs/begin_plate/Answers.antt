@@ -7,11 +7,10 @@ use Rattle.model.proofs.Halftone.{few_cells}
 use Rattle.starts.proofs.begin_plate.Goals as goal
 
 pub fresh-requires : goal.fresh-requires
-fresh-requires c = let s = c in omega (arith, few_cells s.requires, s.requires.dots_length)
+fresh-requires c = omega (arith, few_cells c.requires, c.requires.dots_length)
 
 pub returns : goal.returns
 returns c =
-    let k = c in
-    let is = k.filter_and_square-squared.ensures in
-    let back = read_back w64 k.filter_and_square-squared.result k.filter_and_square-squared.type_inv in
+    let is = c.filter_and_square-squared.ensures in
+    let back = read_back w64 c.filter_and_square-squared.result c.filter_and_square-squared.type_inv in
     (is.0, c.fresh.ensures _ (back ∙ is.1))

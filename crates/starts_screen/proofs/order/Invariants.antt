@@ -1,7 +1,7 @@
 -- `starts_screen::order` meets its contract: the cells passed have their dots, and the next cell stands at (row, col).
 use mathlib.Core.List.{List}
 use mathlib.Core.Path.{◌≡◌}
-use Prim.Native.Nat.{ℕ, ◌+◌, ◌*◌, ◌-◌, ◌≤◌, ◌<◌}
+use Prim.Native.Nat.{ℕ, ◌+◌, ◌*◌, ◌≤◌, ◌<◌}
 use lib.ListN.{length}
 use Rattle.model.specs.Screen.{ordered}
 use Rattle.model.proofs.Basic.{Filling}
@@ -16,6 +16,3 @@ pub record Ordered (width : ℕ) (gray dots : List ℕ) (row col n : ℕ) : Type
 
 abbrev pub invariant-loop-n : goal.invariant-loop-n
 invariant-loop-n l = Ordered l.width l.gray l.dots l.row l.col l.n
-
-abbrev pub decreases-loop-n : goal.decreases-loop-n
-decreases-loop-n l = length l.gray - l.n

@@ -10,7 +10,7 @@ use Rattle.model.proofs.Screen.{is_blank, is_ordered, is_given}
 use Rattle.starts_screen.proofs.start_dots.Goals as goal
 
 pub blank_dots-requires : goal.blank_dots-requires
-blank_dots-requires c = let s = c in let (gray, dots) = s.requires.gray_len in dots ∙ sym gray
+blank_dots-requires c = let (gray, dots) = c.requires.gray_len in dots ∙ sym gray
 
 pub order-requires : goal.order-requires
 unfolding thresholds tabulate total bayer
@@ -23,16 +23,15 @@ order-requires c =
 pub returns-in-0 : goal.returns-in-0
 returns-in-0 c =
     c.blank_dots.ensures
-    ∙ ap (λ k. tabulate k (blank c.args.gray.now)) c.requires.gray_len.0
+    ∙ ap (λ k. tabulate k (blank c.args.setting.gray.now)) c.requires.gray_len.0
     ∙ sym (is_blank _ _ _ c.in-0.is)
 
 pub returns-in-1 : goal.returns-in-1
 returns-in-1 c =
     c.order.ensures
-    ∙ ap (λ k. tabulate k (ordered c.args.measures.width c.args.gray.now)) c.requires.gray_len.0
+    ∙ ap (λ k. tabulate k (ordered c.args.setting.measures.width c.args.setting.gray.now)) c.requires.gray_len.0
     ∙ sym (is_ordered _ _ _ c.in-1.is)
 
 pub returns-in_default : goal.returns-in_default
 returns-in_default c =
-    let a = c.args in
-    sym (is_given a.measures a.gray.now a.dots.now (λ e. omega arith) (λ e. omega arith))
+    sym (is_given c.args.setting.measures c.args.setting.gray.now c.args.dots.now (λ e. omega arith) (λ e. omega arith))
