@@ -2,62 +2,42 @@
 #![tactic(auto)]
 
 ghost use Rattle.std.specs.Prelude.{◌≡◌};
-ghost use Rattle.model.specs.Error.{target_for};
 ghost use Rattle.model.specs.FiledCalls.{rests};
+ghost use Rattle.model.specs.Setting.{target_in};
 ghost use Rattle.filed_rest.specs.Measured.{Startable};
 
 use filter_correlate::kernel;
-use model::{MOST_CELLS, Measures};
+use judge_parts::known_bytes;
+use model::{MOST_CELLS, Setting};
 use search_swaps::swap_all;
 use search_toggles::toggle_all;
-use slices::{copy_bytes, copy_numbers};
 use starts_screen::fresh;
 
 // whether both scans accept nothing, of dots and a table that they may change
-fn scans_clear(
-    m: Measures,
-    psf: &[u8],
-    gray: &[u8],
-    dots: &mut [u8],
-    table: &mut [i32],
-    squared: i64,
-) -> bool
-    requires { Startable m psf.now gray.now dots.old table.old squared }
-    ensures { result ≡ rests (target_for m psf.now gray.now) m.reach dots.old }
+fn scans_clear(setting: Setting, dots: &mut [u8], table: &mut [i32], squared: i64) -> bool
+    requires { Startable setting.measures setting.psf.now setting.gray.now dots.old table.old squared }
+    ensures { result ≡ rests (target_in setting.entry) setting.entry.measures.reach dots.old }
 {
-    let c = kernel(m.radius, psf);
+    known_bytes(setting.gray);
+    let c = kernel(setting.measures.radius, setting.psf);
     let stats = fresh(dots, squared);
-    let toggled = toggle_all(m, psf, gray, &c, dots, table, stats);
+    let toggled = toggle_all(setting, &c, dots, table, stats);
     if toggled.changes != 0 {
         return false;
     }
-    let swapped = swap_all(m, psf, gray, &c, dots, table, toggled.stats);
+    let swapped = swap_all(setting, &c, dots, table, toggled.stats);
     swapped.changes == 0
 }
 
 // Whether a plate that a start takes, with its table and its squared error, is at rest.
-pub fn at_rest(
-    m: Measures,
-    psf: &[u8],
-    gray: &[u8],
-    dots: &[u8],
-    table: &[i32],
-    squared: i64,
-) -> bool
-    requires { Startable m psf.now gray.now dots.now table.now squared }
-    ensures { result ≡ rests (target_for m psf.now gray.now) m.reach dots.now }
+pub fn at_rest(setting: Setting, dots: &[u8], table: &[i32], squared: i64) -> bool
+    requires { Startable setting.measures setting.psf.now setting.gray.now dots.now table.now squared }
+    ensures { result ≡ rests (target_in setting.entry) setting.entry.measures.reach dots.now }
 {
     let n = dots.len();
     let mut some_dots = [0u8; MOST_CELLS];
     let mut some_table = [0i32; MOST_CELLS];
-    copy_bytes(dots, &mut some_dots[..n]);
-    copy_numbers(table, &mut some_table[..n]);
-    scans_clear(
-        m,
-        psf,
-        gray,
-        &mut some_dots[..n],
-        &mut some_table[..n],
-        squared,
-    )
+    some_dots[..n].copy_from_slice(dots);
+    some_table[..n].copy_from_slice(table);
+    scans_clear(setting, &mut some_dots[..n], &mut some_table[..n], squared)
 }

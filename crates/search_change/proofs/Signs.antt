@@ -1,5 +1,5 @@
 -- Laws that several proofs use: a value with a sign, as its local holds it (`signed_holds`), the sum of a toggle, likewise
--- (`peak_small`, `toggle_sum_holds`), and the sign of a multiple (`multiple_sign`).
+-- (`toggle_sum_holds`), and the sign of a multiple (`multiple_sign`).
 use mathlib.Core.Bool.{true}
 use mathlib.Core.Path.{◌≡◌, refl, sym, ◌∙◌, ap}
 use Prim.Native.Nat.{ℕ, zero, suc, ◌*◌, ◌^◌, ◌≤◌, ◌<◌}
@@ -20,9 +20,6 @@ signed_holds r s h q e =
     named (e.0 ∙ ap (λ z. s *ℤ z) h.value) (of_small w32 r (omega (arith, e.1, size_of h)) q)
 
 -- ---- the sum of a toggle
-pub peak_small : (P : ℤ) → nat_abs P ≤ most_kernel → nat_abs (to_z w32 (of_z w32 P)) ≤ most_kernel
-peak_small P h = size_of (of_small w32 P h (lit< tt))
-
 -- it is worked out with the peak as its local holds it
 pub toggle_sum_holds : (s T P : ℤ) {r : ℤ} → nat_abs P ≤ most_kernel
     → (r ≡ pos 2 *ℤ s *ℤ T +ℤ pos 255 *ℤ to_z w32 (of_z w32 P)) × (nat_abs r ≤ 3 * most_filtered)

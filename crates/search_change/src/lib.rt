@@ -40,7 +40,7 @@ pub fn toggle_change(peak: i32, dots: &[u8], table: &[i32], m: usize) -> i64
     ensures value { result ≡ toggle_sum 255 peak (sign dots.now m) (get_or table.now m (pos 0)) }
     ensures result_bound { nat_abs result ≤ most_change }
 {
-    255 * (toggle_sum(peak, dots, table, m) as i64)
+    255 * i64::from(toggle_sum(peak, dots, table, m))
 }
 
 // whether it lowers the squared error
@@ -63,18 +63,12 @@ pub fn between(radius: usize, c: &[i32], at: Cell, to: Cell) -> i32
     let side = 4 * radius + 1;
     let bottom = at.row + 2 * radius;
     let right = at.col + 2 * radius;
-    if bottom < to.row {
-        return 0;
-    }
-    if right < to.col {
+    if bottom < to.row || right < to.col {
         return 0;
     }
     let y = bottom - to.row;
     let x = right - to.col;
-    if side <= y {
-        return 0;
-    }
-    if side <= x {
+    if side <= y || side <= x {
         return 0;
     }
     c[y * side + x]
@@ -108,7 +102,7 @@ pub fn swap_change(peak: i32, apart: i32, dots: &[u8], table: &[i32], m: usize, 
         (get_or table.now m (pos 0)) (get_or table.now n (pos 0)) }
     ensures result_bound { nat_abs result ≤ most_change }
 {
-    510 * ((difference(dots, table, m, n) + 255 * (peak - apart)) as i64)
+    510 * i64::from(difference(dots, table, m, n) + 255 * (peak - apart))
 }
 
 // whether m and n have unlike dots and their swap lowers the squared error; `worth` is 255 × (P - c(m - n)). The sum is
@@ -118,10 +112,7 @@ pub fn lower_swap(dots: &[u8], table: &[i32], m: usize, n: usize, worth: i32) ->
     requires small { Small most_filtered table.now × (nat_abs worth ≤ most_worth) }
     ensures { result ≡ lowers_by dots.now table.now m n worth }
 {
-    if difference(dots, table, m, n) + worth < 0 {
-        return dots[m] != dots[n];
-    }
-    false
+    difference(dots, table, m, n) + worth < 0 && dots[m] != dots[n]
 }
 
 // the same where neither cell is locked, which is tested last, since the sum is seldom below 0
@@ -130,13 +121,7 @@ pub fn takes_swap(gray: &[u8], dots: &[u8], table: &[i32], m: usize, n: usize, w
     requires gray_len { (length gray.now ≡ length dots.now) × Small most_filtered table.now × (nat_abs worth ≤ most_worth) }
     ensures { result ≡ takes_by gray.now dots.now table.now m n worth }
 {
-    if lower_swap(dots, table, m, n, worth) {
-        if is_locked(gray[m]) {
-            return false;
-        }
-        return !is_locked(gray[n]);
-    }
-    false
+    lower_swap(dots, table, m, n, worth) && !is_locked(gray[m]) && !is_locked(gray[n])
 }
 
 // whether a change is accepted: exactly when it is below 0

@@ -1,6 +1,5 @@
 -- Laws of marks and of what is added up from them.
 --   mark_small                               a mark is at most 1
---   mark_locked, mark_like, mark_unlike      a mark by its tests
 --   placed_after                             what stands after a run that is put
 --   gains_none, gains_next                   a run that is added entry by entry
 --   gains_nothing, gains_row                 a row of the widened plate that is added, off the plate and on it
@@ -12,7 +11,7 @@ use mathlib.Core.Path.{◌≡◌, refl, sym, ◌∙◌, ap}
 use Prim.Native.Nat.{ℕ, ◌+◌, ◌*◌, ◌-◌, ◌≤◌, ◌<◌}
 use native.Mathlib.Decide.{ℕ_discrete, dec_lt}
 use native.Mathlib.Omega.{arith}
-use borrow.Author.Tests.{lt-ltb, le-ltb, le-leb, lt-leb, eq-eqb, ne_eqb}
+use borrow.Author.Tests.{lt-ltb, le-ltb, le-leb, lt-leb}
 use lib.Dec.{eqb, leb, ltb}
 use lib.ListN.{length, get_or, set, length-set}
 use lib.Seq.{get_or-set_same, get_or-set_other}
@@ -26,18 +25,6 @@ use Rattle.search_count.specs.Marks.{Gains, mark_of, mark, placed, widened}
 pub mark_small : (g x d : ℕ) → mark_of g x d ≤ 1
 unfolding mark_of
 mark_small g x d = one_most (not (locked_gray g) && eqb x d)
-
-pub mark_locked : (g x d : ℕ) → locked_gray g ≡ true → 0 ≡ mark_of g x d
-unfolding mark_of
-mark_locked g x d e = rw e refl
-
-pub mark_like : (g x d : ℕ) → locked_gray g ≡ false → x ≡ d → 1 ≡ mark_of g x d
-unfolding mark_of
-mark_like g x d e l = rw (e, eq-eqb x d l) refl
-
-pub mark_unlike : (g x d : ℕ) → locked_gray g ≡ false → (x ≡ d → ⊥) → 0 ≡ mark_of g x d
-unfolding mark_of
-mark_unlike g x d e l = rw (e, ne_eqb x d l) refl
 
 -- ---- a run that is put
 module _ (at n : ℕ) (f : ℕ → ℕ) (p : ℕ) where

@@ -1,36 +1,33 @@
 -- The swaps that a scan weighs, counted by marks.
---   cell-trials                        those of a cell: the unlike dots around it
---   all_trials_lem, marked_few             those of the first cells, and their bound
---   row_trials_lem, row_few                those of a row, by the dot that its cells hold, and their bound
---   sized                              a judged plate is one that the counting is handed
---   rows_in_order, row_before, row_on  where the rows of two cells in order stand
+--   cell-trials                 those of a cell: the unlike dots around it
+--   all_trials_lem, marked_few  those of the first cells, and their bound
+--   row_trials_lem, row_few     those of a row, by the dot that its cells hold, and their bound
+--   rows_in_order               the rows of two cells in order
 use mathlib.Core.Bool.{Bool, true, false, ◌&&◌, not}
 use mathlib.Core.List.{List, [], ◌∷◌}
 use mathlib.Core.Path.{◌≡◌, refl, sym, ◌∙◌, ap, ap₂}
 use Prim.Native.Nat.{ℕ, zero, suc, ◌+◌, ◌*◌, ◌-◌, ◌/◌, ◌%◌, ◌≤◌, ◌<◌}
 use native.Mathlib.Decide.{dec_lt}
-use native.Mathlib.Nat.{div-add-mod', mul-le-mul, mul-le-mul_right, mul-zero}
+use native.Mathlib.Nat.{div-add-mod', mul-le-mul, mul-zero}
 use native.Mathlib.Omega.{arith}
 use lib.Dec.{eqb}
 use lib.IntN.{pos, ◌-ℤ◌}
 use lib.ListN.{length, get_or}
-use Rattle.algebra.proofs.Grid.{cell_row, cell_column, cell<, column<, rows_apart}
+use Rattle.algebra.proofs.Grid.{cell_row, cell_column, column<, rows_apart}
 use Rattle.algebra.proofs.Order.{show≡}
 use Rattle.algebra.proofs.Solver.{reify}
 use Rattle.model.specs.declared.Measures.{Measures}
-use Rattle.model.specs.Basic.{pick, one_if, AtMost}
+use Rattle.model.specs.Basic.{one_if, AtMost}
 use Rattle.model.specs.Error.{Target, target_for, cell_at}
 use Rattle.model.specs.Lock.{locked, locked_gray}
 use Rattle.model.specs.Partners.{Offset, lands, partner}
-use Rattle.model.specs.Refusal.{PlateFits}
 use Rattle.model.specs.Scan.{exchangeable, suits, swaps}
-use Rattle.model.proofs.Partners.{lands_on}
 use Rattle.model.proofs.Square.{swaps_square}
 use Rattle.model.proofs.Totals.{sum_below, total_same, total_plus, total_times, total_swap, total_most, total_part}
 use Rattle.invariants.specs.Partners.{biased}
 use Rattle.invariants.specs.Trials.{all_trials}
-use Rattle.search_partners.proofs.Landing.{off_top, off_bottom, off_left, off_right, on}
-use Rattle.search_count.specs.Marks.{Sized, mark_of, mark, widened, column_marks, around, kind_trials}
+use Rattle.search_partners.proofs.Landing.{partner_is, off_top, off_bottom, off_left, off_right, on}
+use Rattle.search_count.specs.Marks.{mark_of, mark, widened, column_marks, around, kind_trials}
 use Rattle.search_count.specs.Marks.{unlike_at, marked_trials}
 use Rattle.search_count.proofs.Marks.{mark_small, widened_above, widened_below, widened_left}
 use Rattle.search_count.proofs.Marks.{widened_right, widened_at, widened_small}
@@ -46,15 +43,6 @@ module _ (n A B : ℕ) (F G : ℕ → ℕ → ℕ) where
       ∙ total_plus n (λ j. A * sum_below n (F j)) (λ j. B * sum_below n (G j))
       ∙ ap₂ (λ u v. u + v) (total_times n A (λ j. sum_below n (F j))) (total_times n B (λ j. sum_below n (G j)))
       ∙ ap₂ (λ u v. A * u + B * v) (total_swap n n F) (total_swap n n G)
-
--- ---- where an offset leads, by what the laws of landing say
-unled : (b : Bool) (p c : ℕ) → (b ≡ true → p < c) → c ≡ pick b p c → b ≡ false
-unled true p c h e = absurd (omega (arith, h refl))
-unled false p c h e = refl
-
-led : (b : Bool) (n p c : ℕ) → n < c → n ≡ pick b p c → (b ≡ true) × (n ≡ p)
-led true n p c h e = (refl, e)
-led false n p c h e = absurd (omega arith)
 
 -- an offset counted from the corner of the square, with 6 added
 biased_is : (q j : ℕ) → q ≤ 6 → pos j -ℤ pos q ≡ pos (j + 6 - q) -ℤ pos 6
@@ -118,11 +106,9 @@ module _ (m : Measures) (psf gray dots : List ℕ) (near : m.reach ≤ 6) (bits 
       abbrev counts : ℕ
       counts = one_if (suits t dots c o)
 
-      off : m.height * m.width ≡ pick lands_there there (m.height * m.width)
-          → ((d : ℕ) → widened m gray dots d (y + j) (x + i) ≡ 0) → counts ≡ pair_at j i
+      off : lands_there ≡ false → ((d : ℕ) → widened m gray dots d (y + j) (x + i) ≡ 0) → counts ≡ pair_at j i
       off e z =
-          ap (λ b. one_if (b && exchangeable t dots c there))
-          (unled lands_there there _ (lands_on m.width m.height c o) e)
+          ap (λ b. one_if (b && exchangeable t dots c there)) e
           ∙ rw (z 0, z 1, mul-zero (mark gray dots 0 c), mul-zero (mark gray dots 1 c)) refl
 
       -- the cell there, where it is on the plate
@@ -135,12 +121,11 @@ module _ (m : Measures) (psf gray dots : List ℕ) (near : m.reach ≤ 6) (bits 
           let columns : x + right - 6 ≡ x + i - m.reach = omega arith in
           ap₂ (cell_at m.width) rows columns
 
-      onto : n ≡ pick lands_there there (m.height * m.width) → n < m.height * m.width
-          → ((d : ℕ) → widened m gray dots d (y + j) (x + i) ≡ mark gray dots d n) → counts ≡ pair_at j i
-      onto e inside seen =
-          let (landed, stands) = led lands_there n there (m.height * m.width) inside e in
+      onto : lands_there ≡ true → there ≡ n → ((d : ℕ) → widened m gray dots d (y + j) (x + i) ≡ mark gray dots d n)
+          → counts ≡ pair_at j i
+      onto landed stands seen =
           ap (λ b. one_if (b && exchangeable t dots c there)) landed
-          ∙ ap (λ k. one_if (exchangeable t dots c k)) (sym stands)
+          ∙ ap (λ k. one_if (exchangeable t dots c k)) stands
           ∙ exchange_is c n
           ∙ ap₂ (λ u v. mark gray dots 0 c * u + mark gray dots 1 c * v) (sym (seen 1)) (sym (seen 0))
 
@@ -159,9 +144,8 @@ module _ (m : Measures) (psf gray dots : List ℕ) (near : m.reach ≤ 6) (bits 
           off (off_right m.width m.height y x across down right (omega arith))
           (λ d. widened_right m gray dots d (y + j) (x + i) (omega arith))
       pair_is (no a) (yes b) (no l) (yes r) =
-          onto (sym stood ∙ on m.width m.height y x across down right
-          (omega arith) (omega arith) (omega arith) (omega arith))
-          (cell< {H = m.height} {W = m.width} (omega arith) (omega arith))
+          onto (on m.width m.height y x across down right (omega arith) (omega arith) (omega arith) (omega arith))
+          (partner_is m.width m.height y x across down right (omega arith) (omega arith) ∙ stood)
           (λ d. widened_at m gray dots d (y + j) (x + i) (omega arith) (omega arith) (omega arith) (omega arith))
 
       pair : one_if (suits t dots c (record { down = pos j -ℤ pos m.reach; right = pos i -ℤ pos m.reach }))
@@ -233,35 +217,10 @@ module _ (m : Measures) (gray dots : List ℕ) where
         let x = k % m.width in
         omega (arith, term_few 0 1 y x (cell_at m.width y x), term_few 1 0 y x (cell_at m.width y x)))
 
--- ---- a judged plate
-pub sized : {m : Measures} {psf gray dots : List ℕ} {table : ℕ} → PlateFits m psf gray dots table → Sized m gray dots
-sized f = record {
-  wide = f.halftone.wide.1;
-  high = f.halftone.high.1;
-  near = f.reach_near;
-  gray_long = f.halftone.gray_length;
-  dots_long = f.halftone.dots_length;
-}
-
 -- ---- two cells in order, and their rows
-module _ (W : ℕ) where
-  pub rows_in_order : (r a s b : ℕ) → r * W + a ≤ s * W + b → b < W → r ≤ s
-  rows_in_order r a s b h k = go (dec_lt s r)
-    where
-      go : Dec (s < r) → r ≤ s
-      go (yes l) = absurd (omega (arith, rows_apart W l))
-      go (no l) = omega arith
-
-  pub row_before : (H r s b : ℕ) → r < s → s * W + b ≤ H * W → 0 < W → r < H
-  row_before H r s b h k w = go (dec_lt r H)
-    where
-      go : Dec (r < H) → r < H
-      go (yes l) = l
-      go (no l) = let o : H < s = omega arith in absurd (omega (arith, rows_apart W o))
-
-  pub row_on : (H s b : ℕ) → s * W + b ≤ H * W → 0 < b → s < H
-  row_on H s b k w = go (dec_lt s H)
-    where
-      go : Dec (s < H) → s < H
-      go (yes l) = l
-      go (no l) = let o : H ≤ s = omega arith in absurd (omega (arith, mul-le-mul_right W o))
+pub rows_in_order : (W r a s b : ℕ) → r * W + a ≤ s * W + b → b < W → r ≤ s
+rows_in_order W r a s b h k = go (dec_lt s r)
+  where
+    go : Dec (s < r) → r ≤ s
+    go (yes l) = absurd (omega (arith, rows_apart W l))
+    go (no l) = omega arith

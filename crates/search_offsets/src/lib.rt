@@ -2,9 +2,11 @@
 // them that are within a given reach.
 #![tactic(auto)]
 
-ghost use Rattle.std.specs.Prelude.{◌≡◌, ◌+◌, ◌*◌, ◌≤◌, ◌<◌, length, take};
-ghost use Rattle.invariants.specs.Partners.{HoldsOffsets};
+ghost use Rattle.std.specs.Prelude.{◌≡◌, ◌≤◌, ◌<◌, length, take};
+ghost use Rattle.invariants.specs.Partners.{HoldsOffsets, row_of, column_of};
 ghost use Rattle.search_offsets.specs.Codes.{near, within, kept};
+
+use model::Cell;
 
 // the 168 offsets in document 01's order, a line for each sum of squares: the two digits of a byte are the row and the
 // column, each with 6 added
@@ -37,35 +39,41 @@ const OFFSETS: [u8; 168] = *b"\
     \x56\x65\x67\x76\
     ";
 
+// the two digits of a code: the row and the column of its offset, each with 6 added
+pub fn digits(code: u8) -> Cell
+    ensures digits_are { (result.row ≡ row_of code) × (result.col ≡ column_of code) }
+    ensures digits_small { (result.row < 16) × (result.col < 16) }
+{
+    Cell {
+        row: usize::from(code / 16),
+        col: usize::from(code % 16),
+    }
+}
+
 // whether a coordinate, 6 added, is within reach
-fn is_near(reach: usize, coordinate: u8) -> bool
-    requires { reach ≤ 6 }
+fn is_near(reach: usize, coordinate: usize) -> bool
     ensures { result ≡ near reach coordinate }
 {
-    let at = coordinate as usize;
-    6 <= at + reach && at <= 6 + reach
+    coordinate.abs_diff(6) <= reach
 }
 
 // whether both coordinates are
 fn is_within(reach: usize, code: u8) -> bool
-    requires { reach ≤ 6 }
     ensures { result ≡ within reach code }
 {
-    is_near(reach, code / 16) && is_near(reach, code % 16)
+    let offset = digits(code);
+    is_near(reach, offset.row) && is_near(reach, offset.col)
 }
 
 // the codes within reach, in their order, at the front of `out`; and how many they are
 fn keep(codes: &[u8], reach: usize, out: &mut [u8]) -> usize
-    requires { (reach ≤ 6) × (length codes.now ≤ length out.old) }
+    requires { length codes.now ≤ length out.old }
     ensures { (result ≤ length out.new) × (take result out.new ≡ kept reach codes.now) }
 {
-    let mut count: usize = 0;
-    let mut k: usize = 0;
-    while k < codes.len() {
-        let code = codes[k];
-        k += 1;
-        if is_within(reach, code) {
-            out[count] = code;
+    let mut count = 0;
+    for code in codes {
+        if is_within(reach, *code) {
+            out[count] = *code;
             count += 1;
         }
     }

@@ -1,13 +1,11 @@
 -- Where an offset whose coordinates have 6 added leads: rows and columns as naturals.
---   lands_is, partner_is                      whether it lands, and on which cell
---   off_top, off_bottom, off_left, off_right  it does not: the number of cells is told
---   on                                        it does: the cell is told
-use Rattle.std.proofs.Common.{◌≡◌, ℕ, suc, ◌+◌, ◌-◌, ◌*◌, ◌<◌, ◌≤◌, Bool, true, false, ◌&&◌, [], ◌∷◌, ℤ, pos, ◌+ℤ◌, ◌-ℤ◌, neg_ℤ, nat_abs, sym, refl, ap, ◌∙◌, ap₂, arith, le-ltb, lt-ltb, le-leb}
+--   lands_is, partner_is                          whether it lands, and on which cell
+--   off_top, off_bottom, off_left, off_right, on  where it does not, and where it does
+use Rattle.std.proofs.Common.{◌≡◌, ℕ, suc, ◌+◌, ◌-◌, ◌<◌, ◌≤◌, Bool, true, false, ◌&&◌, [], ◌∷◌, ℤ, pos, ◌+ℤ◌, ◌-ℤ◌, neg_ℤ, nat_abs, refl, ap, ◌∙◌, ap₂, arith, le-ltb, lt-ltb, le-leb}
 use mathlib.Core.Bool.{and-false}
 use Rattle.algebra.proofs.Solver.{reify}
 use Rattle.algebra.proofs.Order.{show≡}
 use Rattle.algebra.proofs.Grid.{cell_row, cell_column}
-use Rattle.model.specs.Basic.{pick}
 use Rattle.model.specs.Error.{cell_at}
 use Rattle.model.specs.Partners.{inside, lands, partner}
 use Rattle.invariants.specs.Partners.{biased}
@@ -44,8 +42,8 @@ module _ (w h row col : ℕ) (across : col < w) (down right : ℕ) where
   abbrev m : ℕ
   m = cell_at w row col
 
-  abbrev Leads : ℕ → Type 0
-  Leads n = n ≡ pick (lands w h m (biased down right)) (partner w m (biased down right)) (h * w)
+  abbrev Lands : Bool → Type 0
+  Lands b = lands w h m (biased down right) ≡ b
 
   -- as row and column give it
   abbrev there : Bool
@@ -63,22 +61,17 @@ module _ (w h row col : ℕ) (across : col < w) (down right : ℕ) where
       (cell_row {y = row} across) (cell_column row across)
       ∙ ap₂ (λ y x. cell_at w (nat_abs y) (nat_abs x)) (place_is h row down p) (place_is w col right q)
 
-  off : there ≡ false → Leads (h * w)
-  off e = rw (lands_is ∙ e) refl
+  pub off_top : row + down < 6 → Lands false
+  off_top p = lands_is ∙ rw (before h row down p) refl
 
-  pub off_top : row + down < 6 → Leads (h * w)
-  off_top p = off (rw (before h row down p) refl)
+  pub off_bottom : h + 6 ≤ row + down → Lands false
+  off_bottom p = lands_is ∙ rw (beyond h row down p) refl
 
-  pub off_bottom : h + 6 ≤ row + down → Leads (h * w)
-  off_bottom p = off (rw (beyond h row down p) refl)
+  pub off_left : col + right < 6 → Lands false
+  off_left p = lands_is ∙ rw (before w col right p) (and-false (inside h (place row down)))
 
-  pub off_left : col + right < 6 → Leads (h * w)
-  off_left p = off (rw (before w col right p) (and-false (inside h (place row down))))
+  pub off_right : w + 6 ≤ col + right → Lands false
+  off_right p = lands_is ∙ rw (beyond w col right p) (and-false (inside h (place row down)))
 
-  pub off_right : w + 6 ≤ col + right → Leads (h * w)
-  off_right p = off (rw (beyond w col right p) (and-false (inside h (place row down))))
-
-  pub on : 6 ≤ row + down → row + down < h + 6 → 6 ≤ col + right → col + right < w + 6
-      → Leads (cell_at w (row + down - 6) (col + right - 6))
-  on p q r s =
-      rw (lands_is ∙ ap₂ (λ a b. a && b) (within h row down p q) (within w col right r s)) (sym (partner_is p r))
+  pub on : 6 ≤ row + down → row + down < h + 6 → 6 ≤ col + right → col + right < w + 6 → Lands true
+  on p q r s = lands_is ∙ ap₂ (λ a b. a && b) (within h row down p q) (within w col right r s)

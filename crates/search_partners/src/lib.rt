@@ -2,8 +2,7 @@
 // and the cells where they lead.
 #![tactic(auto)]
 
-ghost use Rattle.std.specs.Prelude.{◌≡◌, suc, ◌+◌, ◌*◌, ◌<◌, ◌≤◌, length};
-ghost use Rattle.model.specs.Basic.{pick};
+ghost use Rattle.std.specs.Prelude.{true, false, ◌≡◌, suc, ◌+◌, ◌<◌, ◌≤◌, ◌⊎◌, length, MatchOption};
 ghost use Rattle.model.specs.Partners.{lands, partner};
 ghost use Rattle.invariants.specs.Partners.{HoldsWorths, offset_of};
 ghost use Rattle.invariants.specs.Plate.{cell_of};
@@ -11,8 +10,8 @@ ghost use Rattle.invariants.specs.Window.{HoldsSquare};
 
 use model::Cell;
 use search_change::{between, peak};
+use search_offsets::digits;
 use slices::index;
-use std::num::wrapping_sub_usize;
 
 // the cell n further on in raster order, where the row has so many left
 pub fn ahead(width: usize, at: Cell, n: usize) -> Cell
@@ -46,32 +45,31 @@ pub fn weigh_offsets(radius: usize, c: &[i32], codes: &[u8], worths: &mut [i32])
 {
     let top = peak(radius, c);
     let middle = Cell { row: 6, col: 6 };
-    let mut k: usize = 0;
-    while k < codes.len() {
-        let code = codes[k];
-        let to = Cell {
-            row: (code / 16) as usize,
-            col: (code % 16) as usize,
-        };
-        worths[k] = 255 * (top - between(radius, c, middle, to));
-        k += 1;
+    for (k, code) in codes.iter().enumerate() {
+        worths[k] = 255 * (top - between(radius, c, middle, digits(*code)));
     }
 }
 
-// the cell at the offset of that code, or the number of cells where it is off the plate
-pub fn partner_cell(width: usize, height: usize, at: Cell, code: u8) -> usize
-    requires { (at.row < height) × (at.col < width) × (width ≤ 256) × (height ≤ 256) }
-    ensures { result ≡ pick (lands width height (cell_of width at) (offset_of code))
-        (partner width (cell_of width at) (offset_of code)) (height * width) }
+// a row or a column moved by an offset, which has 6 added, where that is on the plate; below 0 it wraps and is past the end
+fn moved(from: usize, by: usize, limit: usize) -> Option<usize>
+    requires { (from < limit) × (limit ≤ 256) × (by < 16) }
+    ensures { MatchOption result ((from + by < 6) ⊎ (limit + 6 ≤ from + by))
+        (λ to. (to < limit) × (to + 6 ≡ from + by)) }
 {
-    let cells = height * width;
-    let row = wrapping_sub_usize(at.row + (code / 16) as usize, 6);
-    if height <= row {
-        return cells;
-    }
-    let col = wrapping_sub_usize(at.col + (code % 16) as usize, 6);
-    if width <= col {
-        return cells;
-    }
-    index(width, Cell { row: row, col: col })
+    let to = (from + by).wrapping_sub(6);
+    if to < limit { Some(to) } else { None }
+}
+
+// the cell at the offset of that code, where it is on the plate
+pub fn partner_cell(width: usize, height: usize, at: Cell, code: u8) -> Option<usize>
+    requires { (at.row < height) × (at.col < width) × (width ≤ 256) × (height ≤ 256) }
+    ensures { let m = cell_of width at in
+        let o = offset_of code in
+        MatchOption result (lands width height m o ≡ false)
+        (λ n. (lands width height m o ≡ true) × (n ≡ partner width m o)) }
+{
+    let offset = digits(code);
+    let row = moved(at.row, offset.row, height)?;
+    let col = moved(at.col, offset.col, width)?;
+    Some(index(width, Cell { row, col }))
 }

@@ -1,24 +1,24 @@
 -- What the offsets are worth in rows; and rows in which every trial fails, one after the other.
 --   row_length_fits                 a row holds what the reach asks, and is short
 --   worth_in_small                  each entry is small
---   sums_fail                       where no sum of a cell is below 0, its trials fail
+--   run_part                        a run with the worths of a part of a list
 --   rows_none, rows_more, rows_all  no row yet, one row more, all rows within reach
-use mathlib.Core.Bool.{not, and-false}
 use mathlib.Core.List.{List}
 use mathlib.Core.Path.{◌≡◌}
 use Prim.Native.Nat.{ℕ, ◌+◌, ◌*◌, ◌-◌, ◌/◌, ◌%◌, ◌≤◌, ◌<◌, min}
 use native.Mathlib.Decide.{ℕ_discrete}
 use native.Mathlib.Omega.{arith}
 use borrow.Author.Tests.{ltb-true}
-use lib.Dec.{eqb, leb, ltb, lit≤}
+use lib.Dec.{leb, ltb, lit≤}
 use lib.IntN.{ℤ, pos, nat_abs}
-use lib.ListN.{get_or}
+use lib.ListN.{length, get_or, take, drop}
+use Rattle.std.proofs.lemmas.List.{get_or-take, get_or-drop, length-take, length-drop}
 use Rattle.model.specs.Error.{cell_at}
 use Rattle.model.proofs.Basic.{pick_cases}
 use Rattle.invariants.specs.Window.{Small, most_kernel, most_worth}
 use Rattle.invariants.proofs.Partners.{worth_small}
 use Rattle.search_runs.specs.Run.{Fails}
-use Rattle.search_prune.specs.Grid.{row_length, worth_in, RunClear, SumsClear, RowsClear}
+use Rattle.search_prune.specs.Grid.{row_length, worth_in, RunClear, RowsClear}
 
 pub row_length_fits : {reach : ℕ} → reach ≤ 6 → (2 * reach + 1 ≤ row_length reach) × (row_length reach ≤ 16)
 unfolding row_length
@@ -33,16 +33,15 @@ worth_in_small radius small reach q =
     pick_cases (λ z. nat_abs z ≤ most_worth) (leb (q % row_length reach) (2 * reach))
     (λ e. worth_small radius small (q / row_length reach + 6 - reach) (q % row_length reach + 6 - reach)) (λ e. lit≤ tt)
 
--- ---- trials that fail
--- those of a cell m with that dot byte and that entry of the table, where none of its sums is below 0
-pub sums_fail : {dots : List ℕ} {table grid : List ℤ} {dot m from at n : ℕ} {value : ℤ}
-    → dot ≡ get_or dots m 0 → value ≡ get_or table m (pos 0)
-    → SumsClear dot value table grid from at n → RunClear dots table grid m from at n
-sums_fail {dots} {m} {from} same-dot same-value clear = record {
-  each = λ k h.
-      rw (rw (same-dot, same-value) at (clear.each k h))
-      (and-false (not (eqb (get_or dots m 0) (get_or dots (from + k) 0))));
-}
+-- ---- rows whose trials fail
+-- a run with the worths of a part of a list, by the list
+pub run_part : {dots : List ℕ} {table : List ℤ} (grid : List ℤ) {m from : ℕ} (first end : ℕ) → end ≤ length grid
+    → RunClear dots table (take (end - first) (drop first grid)) m from
+    → (i : ℕ) → first + i < end → Fails dots table m (from + i) (get_or grid (first + i) (pos 0))
+run_part grid first end h run i k =
+    let within : i < end - first = omega arith in
+    rw (get_or-take (end - first) (drop first grid) i (pos 0) within, get_or-drop first grid i (pos 0)) at
+    (run.each i (simp (length-take, length-drop) (omega arith)))
 
 module _ {width reach : ℕ} {dots : List ℕ} {table grid : List ℤ} {row col : ℕ} where
   -- no row yet
@@ -52,8 +51,8 @@ module _ {width reach : ℕ} {dots : List ℕ} {table grid : List ℤ} {row col 
   -- one row more
   pub rows_more : (y : ℕ) → row ≤ y + reach → reach ≤ y * width + col
       → RowsClear width y reach dots table grid row col
-      → RunClear dots table grid (cell_at width row col) (y * width + col - reach)
-      ((y + reach - row) * row_length reach) (row_length reach)
+      → ((i : ℕ) → i < row_length reach → Fails dots table (cell_at width row col) (y * width + col - reach + i)
+      (get_or grid ((y + reach - row) * row_length reach + i) (pos 0)))
       → RowsClear width (y + 1) reach dots table grid row col
   rows_more y above placed r n = record { each = λ j i a b d e f. go j i a b d e f (ℕ_discrete (row + j) (y + reach)) }
     where
@@ -66,7 +65,7 @@ module _ {width reach : ℕ} {dots : List ℕ} {table grid : List ℤ} {row col 
           let same_row : row + j - reach ≡ y = omega arith in
           let same : y + reach - row ≡ j = omega arith in
           let place : y * width + col - reach + i ≡ y * width + (col + i - reach) = omega arith in
-          rw same_row (rw (same, place) at (n.each i b))
+          rw same_row (rw (same, place) at (n i b))
 
   -- all rows within reach
   pub rows_all : (y height : ℕ) → min (row + reach + 1) height ≤ y

@@ -32,24 +32,23 @@ pub record GridFits (radius : ℕ) (c : List ℤ) (reach : ℕ) (grid : List ℤ
   pub small : Small most_worth grid
   pub at : (q : ℕ) → q < grid_size reach → get_or grid q (pos 0) ≡ worth_in radius c reach q
 
--- the sum s × (value - T) + worth is not below 0 with each of the n cells from `from` on, the worths standing from `at`
--- on, where s is that of a cell with that dot byte
-pub record SumsClear (dot : ℕ) (value : ℤ) (table grid : List ℤ) (from at n : ℕ) : Type 0 where
-  pub each : (k : ℕ) → k < n
-      → lt_z (sign_of dot *ℤ (value -ℤ get_or table (from + k) (pos 0)) +ℤ get_or grid (at + k) (pos 0)) (pos 0) ≡ false
+-- the sum s × (value - T) + worth is not below 0 with each of the cells whose entries T are listed, a worth for each, where
+-- s is that of a cell with that dot byte
+pub record SumsClear (dot : ℕ) (value : ℤ) (others worths : List ℤ) : Type 0 where
+  pub each : (k : ℕ) → k < length others
+      → lt_z (sign_of dot *ℤ (value -ℤ get_or others k (pos 0)) +ℤ get_or worths k (pos 0)) (pos 0) ≡ false
 
-module _ (dots : List ℕ) (table grid : List ℤ) (m from at n : ℕ) where
-  -- m can be tried with each of the n cells from `from` on, the worths standing from `at` on
+module _ (dots : List ℕ) (table worths : List ℤ) (m from : ℕ) where
+  -- m can be tried with each of the cells from `from` on, as many as there are worths
   pub record RunTest : Type 0 where
     pub tabled : Tabled dots table
     pub here : m < length dots
-    pub there : from + n ≤ length dots
-    pub laid : at + n ≤ length grid
-    pub small : Small most_worth grid
+    pub there : from + length worths ≤ length dots
+    pub small : Small most_worth worths
 
   -- each such trial fails
   pub record RunClear : Type 0 where
-    pub each : (k : ℕ) → k < n → Fails dots table m (from + k) (get_or grid (at + k) (pos 0))
+    pub each : (k : ℕ) → k < length worths → Fails dots table m (from + k) (get_or worths k (pos 0))
 
 -- so it is with each cell in the rows above `bottom` whose offset from (row, col) is (j - reach, i - reach)
 pub record RowsClear (width bottom reach : ℕ) (dots : List ℕ) (table grid : List ℤ) (row col : ℕ) : Type 0 where

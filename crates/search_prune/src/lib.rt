@@ -10,7 +10,6 @@ ghost use Rattle.search_runs.specs.Run.{Tabled};
 ghost use Rattle.search_prune.specs.Grid.{row_length, grid_size, worth_in, GridFits};
 ghost use Rattle.search_prune.specs.Grid.{RunTest, RunClear, SumsClear, RowsClear};
 
-use filter_window::{high, low};
 use model::Cell;
 use search_change::{between, lower_swap, peak, signed};
 use slices::index;
@@ -48,11 +47,8 @@ fn worth_at(radius: usize, c: &[i32], reach: usize, top: i32, q: usize) -> i32
         row: reach,
         col: reach,
     };
-    let to = Cell {
-        row: q / side,
-        col: i,
-    };
-    255 * (top - between(radius, c, middle, to))
+    let row = q / side;
+    255 * (top - between(radius, c, middle, Cell { row, col: i }))
 }
 
 // what the offsets within reach are worth, in rows
@@ -61,65 +57,41 @@ pub fn lay_worths(radius: usize, c: &[i32], reach: usize, grid: &mut [i32])
     ensures { GridFits radius c.now reach grid.new }
 {
     let top = peak(radius, c);
-    let mut q: usize = 0;
-    while q < grid.len() {
-        let worth = worth_at(radius, c, reach, top, q);
-        grid[q] = worth;
-        q += 1;
+    for q in 0..grid.len() {
+        grid[q] = worth_at(radius, c, reach, top, q);
     }
 }
 
-// whether the sum of a trial is below 0 with one of the n cells from `from` on, of a cell with that dot byte and that
-// entry of the table
-fn any_below(
-    dot: u8,
-    value: i32,
-    table: &[i32],
-    from: usize,
-    grid: &[i32],
-    at: usize,
-    n: usize,
-) -> bool
-    requires n_in_bounds { (from + n ≤ length table.now) × (at + n ≤ length grid.now) }
-    requires value_bound { (nat_abs value ≤ most_filtered) × Small most_filtered table.now × Small most_worth grid.now }
-    ensures { result ≡ false → SumsClear dot value table.now grid.now from at n }
+// whether the sum of a trial is below 0 with one of the cells whose entries of the table are `others`, of a cell with that
+// dot byte and that entry
+fn any_below(dot: u8, value: i32, others: &[i32], worths: &[i32]) -> bool
+    requires worths_len { length worths.now ≡ length others.now }
+    requires value_bound { (nat_abs value ≤ most_filtered) × Small most_filtered others.now × Small most_worth worths.now }
+    ensures { result ≡ false → SumsClear dot value others.now worths.now }
 {
     let mut any = false;
-    let mut k: usize = 0;
-    while k < n {
-        let sum = signed(dot, value - table[from + k]) + grid[at + k];
-        if sum < 0 {
+    for k in 0..others.len() {
+        if signed(dot, value - others[k]) + worths[k] < 0 {
             any = true;
         }
-        k += 1;
     }
     any
 }
 
-// whether a swap of m with one of the n cells from `from` on lowers the squared error
-fn any_lower(
-    dots: &[u8],
-    table: &[i32],
-    m: usize,
-    from: usize,
-    grid: &[i32],
-    at: usize,
-    n: usize,
-) -> bool
-    requires { RunTest dots.now table.now grid.now m from at n }
-    ensures { result ≡ false → RunClear dots.now table.now grid.now m from at n }
+// whether a swap of m with one of the cells from `from` on, a worth for each, lowers the squared error
+fn any_lower(dots: &[u8], table: &[i32], m: usize, from: usize, worths: &[i32]) -> bool
+    requires { RunTest dots.now table.now worths.now m from }
+    ensures { result ≡ false → RunClear dots.now table.now worths.now m from }
 {
-    let mut k: usize = 0;
-    while k < n {
-        if lower_swap(dots, table, m, from + k, grid[at + k]) {
+    for k in 0..worths.len() {
+        if lower_swap(dots, table, m, from + k, worths[k]) {
             return true;
         }
-        k += 1;
     }
     false
 }
 
-// the same, by the sums first: there is seldom one below 0
+// the same of a cell with that dot byte and that entry of the table, by the sums first: there is seldom one below 0
 fn row_lowers(
     dot: u8,
     value: i32,
@@ -127,18 +99,14 @@ fn row_lowers(
     table: &[i32],
     m: usize,
     from: usize,
-    grid: &[i32],
-    at: usize,
-    n: usize,
+    worths: &[i32],
 ) -> bool
     requires dot_value { (dot ≡ get_or dots.now m 0) × (value ≡ get_or table.now m (pos 0)) }
-    requires run_test { RunTest dots.now table.now grid.now m from at n }
-    ensures { result ≡ false → RunClear dots.now table.now grid.now m from at n }
+    requires run_test { RunTest dots.now table.now worths.now m from }
+    ensures { result ≡ false → RunClear dots.now table.now worths.now m from }
 {
-    if any_below(dot, value, table, from, grid, at, n) {
-        return any_lower(dots, table, m, from, grid, at, n);
-    }
-    false
+    any_below(dot, value, &table[from..from + worths.len()], worths)
+        && any_lower(dots, table, m, from, worths)
 }
 
 // Whether a partner within reach might lower the squared error. A row that is not whole in the table is not tested, and
@@ -159,27 +127,21 @@ pub fn may_lower(
         dots.now table.now grid.now at.row at.col }
 {
     let side = row_length(reach);
-    let row = at.row;
-    let col = at.col;
     let m = index(width, at);
     let dot = dots[m];
     let value = table[m];
-    let bottom = high(row, reach, height);
-    let mut y = low(row, reach);
-    while y < bottom {
-        let place = y * width + col;
-        if place < reach {
+    for y in at.row.saturating_sub(reach)..height.min(at.row + reach + 1) {
+        let Some(from) = (y * width + at.col).checked_sub(reach) else {
             return true;
-        }
-        let from = place - reach;
+        };
         if table.len() < from + side {
             return true;
         }
-        let first = (y + reach - row) * side;
-        if row_lowers(dot, value, dots, table, m, from, grid, first, side) {
+        let first = (y + reach - at.row) * side;
+        let worths = &grid[first..first + side];
+        if row_lowers(dot, value, dots, table, m, from, worths) {
             return true;
         }
-        y += 1;
     }
     false
 }

@@ -1,6 +1,6 @@
 -- Runs of cells where nothing is accepted, as the loops over them go.
 --   worth_held         what an offset is worth, as a local holds it
---   sum_fits, unlower  the sum of a trial, of locals: it fits, and where it is not below 0 the trial fails
+--   unlower            where the sum of a trial, of locals, is not below 0 the trial fails
 --   offset_clear       a run that is clear from cell to cell is clear at that offset
 use mathlib.Core.Bool.{false, not, and-false}
 use mathlib.Core.List.{List}
@@ -13,8 +13,8 @@ use lib.IntN.{ℤ, pos, nat_abs, ◌+ℤ◌, ◌-ℤ◌, ◌*ℤ◌}
 use lib.ListN.{get_or}
 use lib.Signed.{lt_z}
 use mir.Syntax.{w32}
-use mir.Val.{to_z, of_z, SFits}
-use Rattle.algebra.proofs.Machine.{Holds, named, of_small, add_fits, add_holds}
+use mir.Val.{to_z, of_z}
+use Rattle.algebra.proofs.Machine.{Holds, named, of_small, add_holds}
 use Rattle.model.specs.Change.{sign}
 use Rattle.model.specs.Error.{cell_at, most_filtered}
 use Rattle.invariants.specs.Partners.{row_of, column_of}
@@ -25,10 +25,6 @@ use Rattle.search_runs.specs.Run.{Fails, SwapsClear, OffsetClear}
 pub worth_held : {l : List ℤ} → Small most_worth l → (q : ℕ)
     → Holds w32 (of_z w32 (get_or l q (pos 0))) (get_or l q (pos 0)) most_worth
 worth_held {l} small q = of_small w32 (get_or l q (pos 0)) (small.each q) (lit< tt)
-
-pub sum_fits : (difference : ℤ) {worth : ℤ} {bits : ℕ} → nat_abs difference ≤ 2 * most_filtered
-    → Holds w32 bits worth most_worth → SFits w32 (to_z w32 (of_z w32 difference) +ℤ to_z w32 bits)
-sum_fits difference small held = add_fits (of_small w32 difference small (lit< tt)) held (lit< tt)
 
 -- it is not below 0
 pub unlower : (dots : List ℕ) (table : List ℤ) (m n : ℕ) {difference worth : ℤ} {bits : ℕ}

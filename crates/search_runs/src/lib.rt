@@ -11,14 +11,15 @@ ghost use Rattle.search_runs.specs.Run.{Tabled, TogglesClear, SwapsClear, CellsC
 
 use model::Cell;
 use search_change::{difference, lower_toggle};
-use slices::{index, is_locked, least};
+use search_offsets::digits;
+use slices::{index, is_locked};
 
 // how long a run of cells is from this one on: up to 16 in its row
 pub fn run_length(width: usize, at: Cell) -> usize
     requires { at.col < width }
     ensures { (result ≤ 16) × (at.col + result ≤ width) }
 {
-    least(16, width - at.col)
+    (width - at.col).min(16)
 }
 
 // whether a toggle lowers the squared error at one of the n cells from `from` on
@@ -28,12 +29,10 @@ pub fn any_toggles(peak: i32, dots: &[u8], table: &[i32], from: usize, n: usize)
     ensures { result ≡ false → TogglesClear peak dots.now table.now from n }
 {
     let mut any = false;
-    let mut k: usize = 0;
-    while k < n {
+    for k in 0..n {
         if lower_toggle(peak, dots, table, from + k) {
             any = true;
         }
-        k += 1;
     }
     any
 }
@@ -44,12 +43,10 @@ pub fn quiet_toggles(peak: i32, dots: &[u8], table: &[i32], from: usize, n: usiz
     requires peak_bound { (nat_abs peak ≤ most_kernel) × Small most_filtered table.now }
     ensures { (result ≤ n) × TogglesClear peak dots.now table.now from result }
 {
-    let mut k: usize = 0;
-    while k < n {
+    for k in 0..n {
         if lower_toggle(peak, dots, table, from + k) {
             return k;
         }
-        k += 1;
     }
     n
 }
@@ -61,17 +58,13 @@ fn any_swaps(dots: &[u8], table: &[i32], worth: i32, from: usize, to: usize, n: 
     ensures { result ≡ false → SwapsClear dots.now table.now worth from to n }
 {
     let mut hits: u32 = 0;
-    let mut k: usize = 0;
-    while k < n {
+    for k in 0..n {
         let here = dots[from + k];
         let there = dots[to + k];
         let sum = difference(dots, table, from + k, to + k) + worth;
-        if sum < 0 {
-            if here != there {
-                hits += 1;
-            }
+        if sum < 0 && here != there {
+            hits += 1;
         }
-        k += 1;
     }
     hits != 0
 }
@@ -95,19 +88,13 @@ pub fn swaps_clear(
 {
     let m = index(width, at);
     let back = 6 * width + 6;
-    let mut j = codes.len();
-    while 0 < j {
-        j -= 1;
-        let code = codes[j];
-        let place = m + (code / 16) as usize * width + (code % 16) as usize;
-        if place < back {
+    for j in (0..codes.len()).rev() {
+        let offset = digits(codes[j]);
+        let place = m + offset.row * width + offset.col;
+        let Some(to) = place.checked_sub(back) else {
             return false;
-        }
-        let to = place - back;
-        if dots.len() < to + n {
-            return false;
-        }
-        if any_swaps(dots, table, worths[j], m, to, n) {
+        };
+        if dots.len() < to + n || any_swaps(dots, table, worths[j], m, to, n) {
             return false;
         }
     }
@@ -119,12 +106,10 @@ pub fn locked_run(gray: &[u8], from: usize, n: usize) -> usize
     requires { from + n ≤ length gray.now }
     ensures { (result ≤ n) × RunLocked gray.now from result }
 {
-    let mut k: usize = 0;
-    while k < n {
+    for k in 0..n {
         if !is_locked(gray[from + k]) {
             return k;
         }
-        k += 1;
     }
     n
 }

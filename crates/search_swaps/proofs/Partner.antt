@@ -1,7 +1,6 @@
 -- The partner of the cell at (row, col) at an offset whose coordinates have 6 added.
---   landed, stands                  it lands on a row and in a column of the plate, and where it stands
---   partner_there, partner_missing  what the code is told: the cell, or the number of cells
---   trial_is                        the test by the table and by what the offset is worth is whether the swap lowers E
+--   landed, stands  it lands on a row and in a column of the plate, and where it stands
+--   trial_is        the test by the table and by what the offset is worth is whether the swap lowers E
 use mathlib.Core.Bool.{Bool, true, false, ◌&&◌, not, and-eq-true_iff}
 use mathlib.Core.List.{List, [], ◌∷◌}
 use mathlib.Core.Path.{◌≡◌, refl, sym, ◌∙◌, ap, ap₂, subst}
@@ -16,7 +15,7 @@ use Rattle.algebra.proofs.Order.{read≤, read<, show≡}
 use Rattle.algebra.proofs.Solver.{reify}
 use Rattle.model.specs.declared.Cell.{Cell}
 use Rattle.model.specs.declared.Measures.{Measures}
-use Rattle.model.specs.Basic.{pick, square_at}
+use Rattle.model.specs.Basic.{square_at}
 use Rattle.model.specs.Change.{sign, swap_sum, swap, lowers}
 use Rattle.model.specs.Error.{Target, target_for, cell_at}
 use Rattle.model.specs.Partners.{Offset, inside, lands, partner}
@@ -26,7 +25,6 @@ use Rattle.model.specs.Scan.{exchangeable}
 use Rattle.invariants.specs.Plate.{Judged, OnPlate, cell_of}
 use Rattle.invariants.specs.Trials.{lowers_at, takes_by}
 use Rattle.invariants.proofs.Plate.{swap_weighs}
-use Rattle.model.proofs.Partners.{lands_on}
 use Rattle.model.proofs.State.{below}
 use Rattle.search_partners.proofs.Landing.{lands_is, partner_is}
 use Rattle.search_change.proofs.Signs.{multiple_sign}
@@ -76,22 +74,6 @@ module _ (w h row col : ℕ) (across : col < w) (down right : ℕ) where
 
   pub stands : lands w h m offset ≡ true → partner w m offset ≡ cell_at w (row + down - 6) (col + right - 6)
   stands e = let (top, first) = (landed e).0 in partner_is w h row col across down right top first
-
-  -- what the code is told: the cell, or the number of cells
-  module _ {n : ℕ} (e : n ≡ pick (lands w h m offset) (partner w m offset) (h * w)) where
-    pub partner_there : n < h * w → (lands w h m offset ≡ true) × (n ≡ partner w m offset)
-    partner_there l = go (lands w h m offset) e
-      where
-        go : (b : Bool) → n ≡ pick b (partner w m offset) (h * w) → (b ≡ true) × (n ≡ partner w m offset)
-        go true e = (refl, e)
-        go false e = absurd (omega arith)
-
-    pub partner_missing : h * w ≤ n → lands w h m offset ≡ false
-    partner_missing l = go (lands w h m offset) e (lands_on w h m offset)
-      where
-        go : (b : Bool) → n ≡ pick b (partner w m offset) (h * w) → (b ≡ true → partner w m offset < h * w) → b ≡ false
-        go true e below = absurd (omega (arith, below refl))
-        go false e below = refl
 
 -- ---- a trial there: the test by the table and by what the offset is worth
 -- which is made of cells that are not locked and whose dots are unlike

@@ -4,17 +4,18 @@
 
 ghost use Rattle.std.specs.Prelude.{true, ◌≡◌, ℕ, ◌+◌, ◌^◌, ◌≤◌, ◌<◌, length, get_or};
 ghost use Rattle.model.specs.Basic.{pick};
-ghost use Rattle.model.specs.Error.{target_for, cells};
+ghost use Rattle.model.specs.Error.{cells};
 ghost use Rattle.model.specs.Reference.{reference};
 ghost use Rattle.model.specs.Scan.{swaps, sweep, trials_to};
-ghost use Rattle.invariants.specs.Partners.{offset_of, row_of, column_of, worth_at, HoldsOffsets, HoldsWorths};
-ghost use Rattle.invariants.specs.Plate.{Judged, Ready, OnPlate, OnWay, cell_of, Leaves};
+ghost use Rattle.model.specs.Setting.{target_in};
+ghost use Rattle.invariants.specs.Partners.{offset_of, row_of, column_of, worth_at, HoldsOffsets};
+ghost use Rattle.invariants.specs.Plate.{JudgedIn, ReadyIn, OnPlate, OnWay, cell_of, Leaves};
 ghost use Rattle.invariants.specs.Trials.{visit, performed, swaps_after, lowers_at, Failed, Quiet, Takes};
-ghost use Rattle.search_prune.specs.Grid.{GridFits};
+ghost use Rattle.search_swaps.specs.Offers.{HoldsOffers};
 
-use model::{Cell, Counted, Measures, Progress, Stats};
+use model::{Cell, Counted, Progress, Setting, Stats};
 use search_change::takes_swap;
-use search_offsets::within_reach;
+use search_offsets::{digits, within_reach};
 use search_partners::{ahead, next, partner_cell, weigh_offsets};
 use search_prune::{grid_size, lay_worths, may_lower};
 use search_runs::{locked_run, run_length, swaps_clear};
@@ -23,12 +24,18 @@ use search_toggles::run_end;
 use search_trial::{advance, swap};
 use slices::{index, is_locked};
 
+// The offsets within reach: their codes, what each is worth, which is 255 × (P - c), and the same in rows.
+#[derive(Clone, Copy)]
+struct Offers<'a> {
+    codes: &'a [u8],
+    worths: &'a [i32],
+    grid: &'a [i32],
+}
+
 // One trial of a swap scan: whether the partner at the offset of that code suits and the swap with it lowers the squared
 // error; `worth` is 255 × (P - c) of the offset.
 fn lowering(
-    measures: Measures,
-    psf: &[u8],
-    gray: &[u8],
+    setting: Setting,
     c: &[i32],
     dots: &[u8],
     table: &[i32],
@@ -36,94 +43,85 @@ fn lowering(
     code: u8,
     worth: i32,
 ) -> bool
-    requires judged { Judged measures psf.now gray.now c.now dots.now table.now × OnPlate measures at }
-    requires worth_value { worth ≡ worth_at measures.radius c.now (row_of code) (column_of code) }
-    ensures { result ≡ lowers_at (target_for measures psf.now gray.now) dots.now
-        (cell_of measures.width at) (offset_of code) }
+    requires judged { JudgedIn setting c.now dots.now table.now × OnPlate setting.measures at }
+    requires worth_value { worth ≡ worth_at setting.measures.radius c.now (row_of code) (column_of code) }
+    ensures { result ≡ lowers_at (target_in setting.entry) dots.now
+        (cell_of setting.entry.measures.width at) (offset_of code) }
 {
-    let m = index(measures.width, at);
-    let n = partner_cell(measures.width, measures.height, at, code);
-    if table.len() <= n {
+    let m = index(setting.measures.width, at);
+    let Some(n) = partner_cell(setting.measures.width, setting.measures.height, at, code) else {
         return false;
-    }
-    takes_swap(gray, dots, table, m, n, worth)
+    };
+    takes_swap(setting.gray, dots, table, m, n, worth)
 }
 
 // How many cells from here on can be passed over, no swap being accepted at any: those that are locked, or a run of up to
 // 16 in this row, or 0 where one might be. Cells before `tested` are in a run where one was found. With many partners the
 // test of a run takes longer than that of its cells, so it is made up to reach 2.
 fn clear_swaps(
-    measures: Measures,
-    psf: &[u8],
-    gray: &[u8],
+    setting: Setting,
     c: &[i32],
-    codes: &[u8],
-    worths: &[i32],
+    offers: Offers,
     dots: &[u8],
     table: &[i32],
     at: Cell,
     tested: usize,
 ) -> usize
-    requires judged { Judged measures psf.now gray.now c.now dots.now table.now × OnPlate measures at }
-    requires holds_offsets { HoldsOffsets measures.reach codes.now × HoldsWorths measures.radius c.now codes.now worths.now }
-    ensures { (at.col + result ≤ measures.width) × ((k : ℕ) → k < result
-        → Failed (target_for measures psf.now gray.now) measures.reach dots.now
-        (cell_of measures.width at + k) (length codes.now)) }
+    requires judged { JudgedIn setting c.now dots.now table.now × OnPlate setting.measures at }
+    requires holds_offers { HoldsOffers setting.measures c.now offers }
+    ensures { (at.col + result ≤ setting.entry.measures.width) × ((k : ℕ) → k < result
+        → Failed (target_in setting.entry) setting.entry.measures.reach dots.now
+        (cell_of setting.entry.measures.width at + k) (length offers.entry.codes.now)) }
 {
-    let m = index(measures.width, at);
-    if is_locked(gray[m]) {
-        return locked_run(gray, m, run_length(measures.width, at));
+    let m = index(setting.measures.width, at);
+    if is_locked(setting.gray[m]) {
+        return locked_run(setting.gray, m, run_length(setting.measures.width, at));
     }
-    if m < tested {
+    if m < tested || 2 < setting.measures.reach {
         return 0;
     }
-    if 2 < measures.reach {
-        return 0;
+    let n = run_length(setting.measures.width, at);
+    if swaps_clear(
+        setting.measures.width,
+        offers.codes,
+        offers.worths,
+        dots,
+        table,
+        at,
+        n,
+    ) {
+        n
+    } else {
+        0
     }
-    let n = run_length(measures.width, at);
-    if swaps_clear(measures.width, codes, worths, dots, table, at, n) {
-        return n;
-    }
-    0
 }
 
 // Where the trials of a cell begin: at the first offset, or past the last where no partner can lower the squared error.
 fn first_trial(
-    measures: Measures,
-    psf: &[u8],
-    gray: &[u8],
+    setting: Setting,
     c: &[i32],
-    codes: &[u8],
-    grid: &[i32],
+    offers: Offers,
     dots: &[u8],
     table: &[i32],
     at: Cell,
 ) -> usize
-    requires judged { Judged measures psf.now gray.now c.now dots.now table.now × OnPlate measures at }
-    requires holds_offsets { HoldsOffsets measures.reach codes.now × GridFits measures.radius c.now measures.reach grid.now }
-    ensures { (result ≤ length codes.now)
-        × Failed (target_for measures psf.now gray.now) measures.reach dots.now
-        (cell_of measures.width at) result }
+    requires judged { JudgedIn setting c.now dots.now table.now × OnPlate setting.measures at }
+    requires holds_offers { HoldsOffers setting.measures c.now offers }
+    ensures { (result ≤ length offers.entry.codes.now)
+        × Failed (target_in setting.entry) setting.entry.measures.reach dots.now
+        (cell_of setting.entry.measures.width at) result }
 {
-    if may_lower(
-        measures.width,
-        measures.height,
-        measures.reach,
-        grid,
-        dots,
-        table,
-        at,
-    ) {
-        return 0;
+    let m = setting.measures;
+    if may_lower(m.width, m.height, m.reach, offers.grid, dots, table, at) {
+        0
+    } else {
+        offers.codes.len()
     }
-    codes.len()
 }
 
 // The swap of a cell with the partner found.
 fn swap_cell(
-    measures: Measures,
-    psf: &[u8],
-    gray: &[u8],
+    setting: Setting,
     c: &[i32],
     codes: &[u8],
     dots: &mut [u8],
@@ -132,20 +130,21 @@ fn swap_cell(
     at: Cell,
     found: usize,
 ) -> Progress
-    requires ready { Ready measures psf.now gray.now c.now dots.old table.old progress.stats }
-    requires on_plate { OnPlate measures at × (progress.changes < 2 ^ 63) × HoldsOffsets measures.reach codes.now }
-    requires found_in_bounds { (found < length codes.now) × (lowers_at (target_for measures psf.now gray.now) dots.old
-        (cell_of measures.width at) (offset_of (get_or codes.now found 0)) ≡ true) }
-    ensures { let t = target_for measures psf.now gray.now in
-        Leaves t (performed t (visit t (swaps_after t measures.reach found) dots.old progress
-        (cell_of measures.width at))) result dots.new table.new }
+    requires ready { ReadyIn setting c.now dots.old table.old progress.stats }
+    requires on_plate { OnPlate setting.measures at × (progress.changes < 2 ^ 63)
+        × HoldsOffsets setting.measures.reach codes.now }
+    requires found_in_bounds { (found < length codes.now) × (lowers_at (target_in setting) dots.old
+        (cell_of setting.measures.width at) (offset_of (get_or codes.now found 0)) ≡ true) }
+    ensures { let t = target_in setting.entry in
+        Leaves t (performed t (visit t (swaps_after t setting.entry.measures.reach found) dots.old progress
+        (cell_of setting.entry.measures.width at))) result dots.new table.new }
 {
-    let code = codes[found];
+    let offset = digits(codes[found]);
     let to = Cell {
-        row: at.row + (code / 16) as usize - 6,
-        col: at.col + (code % 16) as usize - 6,
+        row: at.row + offset.row - 6,
+        col: at.col + offset.col - 6,
     };
-    let answer = swap(measures, psf, gray, c, dots, table, progress.stats, at, to);
+    let answer = swap(setting, c, dots, table, progress.stats, at, to);
     advance(progress, answer)
 }
 
@@ -168,59 +167,59 @@ struct Taker {
 // The first cell from there on that takes a partner: at each cell the partners are tried in order, up to the first that
 // lowers the squared error. Cells where none can are found by a quick test and passed over.
 fn next_taker(
-    measures: Measures,
-    psf: &[u8],
-    gray: &[u8],
+    setting: Setting,
     c: &[i32],
-    codes: &[u8],
-    worths: &[i32],
-    grid: &[i32],
+    offers: Offers,
     dots: &[u8],
     table: &[i32],
     from: Stand,
 ) -> Taker
-    requires judged { Judged measures psf.now gray.now c.now dots.now table.now × OnWay measures from.at }
-    requires holds_offsets { HoldsOffsets measures.reach codes.now × HoldsWorths measures.radius c.now codes.now worths.now
-        × GridFits measures.radius c.now measures.reach grid.now }
-    ensures on_way { OnWay measures result.at × Quiet (target_for measures psf.now gray.now)
-        measures.reach dots.now (cell_of measures.width from.at) (cell_of measures.width result.at) }
-    ensures takes { result.at.row < measures.height → Takes (target_for measures psf.now gray.now)
-        measures.reach dots.now (cell_of measures.width result.at) result.found }
+    requires judged { JudgedIn setting c.now dots.now table.now × OnWay setting.measures from.at }
+    requires holds_offers { HoldsOffers setting.measures c.now offers }
+    ensures on_way { let m = setting.entry.measures in
+        OnWay m result.at × Quiet (target_in setting.entry)
+        m.reach dots.now (cell_of m.width from.at) (cell_of m.width result.at) }
+    ensures takes { let m = setting.entry.measures in
+        result.at.row < m.height → Takes (target_in setting.entry)
+        m.reach dots.now (cell_of m.width result.at) result.found }
 {
     let mut at = from.at;
     let mut tested = from.tested;
-    while at.row < measures.height {
-        let n = clear_swaps(
-            measures, psf, gray, c, codes, worths, dots, table, at, tested,
-        );
+    // a `while`, since how far a step goes is known only at the step; 01 binds the loop left by `break 'partners`
+    while at.row < setting.measures.height {
+        let n = clear_swaps(setting, c, offers, dots, table, at, tested);
         if 0 < n {
-            at = ahead(measures.width, at, n);
+            at = ahead(setting.measures.width, at, n);
         } else {
-            tested = run_end(measures.width, at, tested);
-            let mut k = first_trial(measures, psf, gray, c, codes, grid, dots, table, at);
+            tested = run_end(setting.measures.width, at, tested);
+            let mut k = first_trial(setting, c, offers, dots, table, at);
             let found = 'partners: loop {
-                if codes.len() <= k {
+                if offers.codes.len() <= k {
                     break 'partners k;
                 }
-                if lowering(measures, psf, gray, c, dots, table, at, codes[k], worths[k]) {
+                if lowering(
+                    setting,
+                    c,
+                    dots,
+                    table,
+                    at,
+                    offers.codes[k],
+                    offers.worths[k],
+                ) {
                     break 'partners k;
                 }
                 k += 1;
             };
-            if found < codes.len() {
-                return Taker {
-                    at: at,
-                    found: found,
-                    tested: tested,
-                };
+            if found < offers.codes.len() {
+                return Taker { at, found, tested };
             }
-            at = next(measures.width, at);
+            at = next(setting.measures.width, at);
         }
     }
     Taker {
-        at: at,
+        at,
         found: 0,
-        tested: tested,
+        tested,
     }
 }
 
@@ -234,30 +233,24 @@ struct Task {
 // A swap scan with the offsets within reach and what they are worth: from cell to cell that takes a partner. Its trials are
 // counted where that is asked for, and else 0.
 fn swap_by(
-    measures: Measures,
-    psf: &[u8],
-    gray: &[u8],
+    setting: Setting,
     c: &[i32],
-    codes: &[u8],
-    worths: &[i32],
-    grid: &[i32],
+    offers: Offers,
     dots: &mut [u8],
     table: &mut [i32],
     task: Task,
 ) -> Counted
-    requires ready { Ready measures psf.now gray.now c.now dots.old table.old task.stats }
-    requires holds_offsets { HoldsOffsets measures.reach codes.now × HoldsWorths measures.radius c.now codes.now worths.now
-        × GridFits measures.radius c.now measures.reach grid.now }
-    ensures fact { let t = target_for measures psf.now gray.now in
-        Leaves t (performed t (sweep t (swaps t measures.reach) (reference dots.old task.stats)))
+    requires ready { ReadyIn setting c.now dots.old table.old task.stats }
+    requires holds_offers { HoldsOffers setting.measures c.now offers }
+    ensures fact { let t = target_in setting.entry in
+        Leaves t (performed t (sweep t (swaps t setting.entry.measures.reach) (reference dots.old task.stats)))
         result.progress dots.new table.new }
-    ensures trials_value { let t = target_for measures psf.now gray.now in
-        result.trials ≡ pick task.counted (trials_to t (swaps t measures.reach)
+    ensures trials_value { let t = target_in setting.entry in
+        result.trials ≡ pick task.counted (trials_to t (swaps t setting.entry.measures.reach)
         (reference dots.old task.stats) (cells t)) 0 }
 {
-    let stats = task.stats;
     let mut progress = Progress {
-        stats: stats,
+        stats: task.stats,
         changes: 0,
     };
     let mut trials: u64 = 0;
@@ -265,34 +258,26 @@ fn swap_by(
         at: Cell { row: 0, col: 0 },
         tested: 0,
     };
+    // a `loop`, since where the next swap is, if there is one, is a fact of the plate
     loop {
-        let taker = next_taker(
-            measures, psf, gray, c, codes, worths, grid, dots, table, from,
-        );
+        let taker = next_taker(setting, c, offers, dots, table, from);
         trials = tally(
             task.counted,
-            measures,
-            psf,
-            gray,
-            codes,
+            setting,
+            offers.codes,
             dots,
             trials,
             from.at,
             taker.at,
             taker.found,
         );
-        if measures.height <= taker.at.row {
-            return Counted {
-                progress: progress,
-                trials: trials,
-            };
+        if setting.measures.height <= taker.at.row {
+            return Counted { progress, trials };
         }
         progress = swap_cell(
-            measures,
-            psf,
-            gray,
+            setting,
             c,
-            codes,
+            offers.codes,
             dots,
             table,
             progress,
@@ -300,7 +285,7 @@ fn swap_by(
             taker.found,
         );
         from = Stand {
-            at: next(measures.width, taker.at),
+            at: next(setting.measures.width, taker.at),
             tested: taker.tested,
         };
     }
@@ -309,60 +294,48 @@ fn swap_by(
 // A swap scan: what it has come to at its end, and its trials where they are counted, else 0.
 pub fn swap_counted(
     counted: bool,
-    measures: Measures,
-    psf: &[u8],
-    gray: &[u8],
+    setting: Setting,
     c: &[i32],
     dots: &mut [u8],
     table: &mut [i32],
     stats: Stats,
 ) -> Counted
-    requires { Ready measures psf.now gray.now c.now dots.old table.old stats }
-    ensures fact { let t = target_for measures psf.now gray.now in
-        Leaves t (performed t (sweep t (swaps t measures.reach) (reference dots.old stats)))
+    requires { ReadyIn setting c.now dots.old table.old stats }
+    ensures fact { let t = target_in setting.entry in
+        Leaves t (performed t (sweep t (swaps t setting.entry.measures.reach) (reference dots.old stats)))
         result.progress dots.new table.new }
-    ensures trials_value { let t = target_for measures psf.now gray.now in
-        result.trials ≡ pick counted (trials_to t (swaps t measures.reach) (reference dots.old stats) (cells t))
-        0 }
+    ensures trials_value { let t = target_in setting.entry in
+        result.trials ≡ pick counted (trials_to t (swaps t setting.entry.measures.reach) (reference dots.old stats)
+        (cells t)) 0 }
 {
     let mut codes = [0u8; 168];
     let mut worths = [0i32; 168];
     let mut grid = [0i32; 208];
-    let count = within_reach(measures.reach, &mut codes);
-    weigh_offsets(measures.radius, c, &codes[..count], &mut worths[..count]);
-    let n = grid_size(measures.reach);
-    lay_worths(measures.radius, c, measures.reach, &mut grid[..n]);
-    swap_by(
-        measures,
-        psf,
-        gray,
-        c,
-        &codes[..count],
-        &worths[..count],
-        &grid[..n],
-        dots,
-        table,
-        Task {
-            stats: stats,
-            counted: counted,
-        },
-    )
+    let m = setting.measures;
+    let count = within_reach(m.reach, &mut codes);
+    weigh_offsets(m.radius, c, &codes[..count], &mut worths[..count]);
+    let n = grid_size(m.reach);
+    lay_worths(m.radius, c, m.reach, &mut grid[..n]);
+    let offers = Offers {
+        codes: &codes[..count],
+        worths: &worths[..count],
+        grid: &grid[..n],
+    };
+    swap_by(setting, c, offers, dots, table, Task { stats, counted })
 }
 
 // A swap scan: what it has come to at its end.
 pub fn swap_all(
-    measures: Measures,
-    psf: &[u8],
-    gray: &[u8],
+    setting: Setting,
     c: &[i32],
     dots: &mut [u8],
     table: &mut [i32],
     stats: Stats,
 ) -> Progress
-    requires { Ready measures psf.now gray.now c.now dots.old table.old stats }
-    ensures { let t = target_for measures psf.now gray.now in
-        Leaves t (performed t (sweep t (swaps t measures.reach) (reference dots.old stats)))
+    requires { ReadyIn setting c.now dots.old table.old stats }
+    ensures { let t = target_in setting.entry in
+        Leaves t (performed t (sweep t (swaps t setting.entry.measures.reach) (reference dots.old stats)))
         result dots.new table.new }
 {
-    swap_counted(false, measures, psf, gray, c, dots, table, stats).progress
+    swap_counted(false, setting, c, dots, table, stats).progress
 }

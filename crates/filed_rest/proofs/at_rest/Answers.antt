@@ -23,20 +23,20 @@ few s = let f = s.requires.measured.plate.halftone in omega (arith, few_cells f,
 pub slice_bounds-some_dots-end : goal.slice_bounds-some_dots-end
 slice_bounds-some_dots-end c = few search
 
-pub slice_bounds-copy_bytes-end : goal.slice_bounds-copy_bytes-end
-slice_bounds-copy_bytes-end c = part_whole _ _ (few search)
+pub slice_bounds-copy_from_slice-end : goal.slice_bounds-copy_from_slice-end
+slice_bounds-copy_from_slice-end c = part_whole _ _ (few search)
 
-pub copy_bytes-requires : goal.copy_bytes-requires
-copy_bytes-requires c = sym (part_whole _ _ (few search))
+pub copy_from_slice-requires : goal.copy_from_slice-requires
+copy_from_slice-requires c = sym (part_whole _ _ (few search))
 
 pub slice_bounds-some_table-end : goal.slice_bounds-some_table-end
 slice_bounds-some_table-end c = few search
 
-pub slice_bounds-copy_numbers-end : goal.slice_bounds-copy_numbers-end
-slice_bounds-copy_numbers-end c = part_whole _ _ (few search)
+pub slice_bounds-copy_from_slice-end-2 : goal.slice_bounds-copy_from_slice-end-2
+slice_bounds-copy_from_slice-end-2 c = part_whole _ _ (few search)
 
-pub copy_numbers-requires : goal.copy_numbers-requires
-copy_numbers-requires c =
+pub copy_from_slice-requires-2 : goal.copy_from_slice-requires-2
+copy_from_slice-requires-2 c =
     let s : Start = search in
     let f = s.requires.measured.plate.halftone in
     sym (part_whole _ _ (few s)) ∙ f.dots_length ∙ sym f.table_length
@@ -62,29 +62,29 @@ table_is s table long is = again_is (n s) zero-table table (few s) long ∙ is
 
 pub slice_bounds-some_dots-end-2 : goal.slice_bounds-some_dots-end-2
 slice_bounds-some_dots-end-2 c =
-    let s : Start = search in again_fits (n s) zero-dots _ (few s) c.copy_bytes.auto.out
+    let s : Start = search in again_fits (n s) zero-dots _ (few s) c.copy_from_slice.auto.self
 
 pub slice_bounds-scans_clear-end : goal.slice_bounds-scans_clear-end
 slice_bounds-scans_clear-end c =
-    let s : Start = search in again_whole (n s) zero-dots _ (few s) c.copy_bytes.auto.out
+    let s : Start = search in again_whole (n s) zero-dots _ (few s) c.copy_from_slice.auto.self
 
 pub slice_bounds-some_table-end-2 : goal.slice_bounds-some_table-end-2
 slice_bounds-some_table-end-2 c =
-    let s : Start = search in again_fits (n s) zero-table _ (few s) c.copy_numbers.auto.out
+    let s : Start = search in again_fits (n s) zero-table _ (few s) c.copy_from_slice-2.auto.self
 
 pub slice_bounds-scans_clear-end-2 : goal.slice_bounds-scans_clear-end-2
 slice_bounds-scans_clear-end-2 c =
-    let s : Start = search in again_whole (n s) zero-table _ (few s) c.copy_numbers.auto.out
+    let s : Start = search in again_whole (n s) zero-table _ (few s) c.copy_from_slice-2.auto.self
 
 pub scans_clear-requires : goal.scans_clear-requires
 scans_clear-requires c =
     let s : Start = search in
     let a = s.args in
     let back = read_back w64 a.squared s.ranges.squared.sfits in
-    let d = dots_are s _ c.copy_bytes.auto.out c.copy_bytes.ensures in
-    let t = table_is s _ c.copy_numbers.auto.out c.copy_numbers.ensures in
+    let d = dots_are s _ c.copy_from_slice.auto.self c.copy_from_slice.ensures.after in
+    let t = table_is s _ c.copy_from_slice-2.auto.self c.copy_from_slice-2.ensures.after in
     subst (λ (X : Type 0). X)
-    (λ i. Startable a.m a.psf.now a.gray.now (sym d i) (sym t i) (sym back i))
+    (λ i. Startable a.setting.measures a.setting.psf.now a.setting.gray.now (sym d i) (sym t i) (sym back i))
     s.requires
 
 pub returns : goal.returns
@@ -92,4 +92,4 @@ returns c =
     let s : Start = search in
     let a = s.args in
     c.scans_clear.ensures
-    ∙ ap (rests (target_for a.m a.psf.now a.gray.now) a.m.reach) (dots_are s _ c.copy_bytes.auto.out c.copy_bytes.ensures)
+    ∙ ap (rests (target_for a.setting.measures a.setting.psf.now a.setting.gray.now) a.setting.measures.reach) (dots_are s _ c.copy_from_slice.auto.self c.copy_from_slice.ensures.after)

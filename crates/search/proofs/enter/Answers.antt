@@ -1,43 +1,24 @@
--- `search::enter` meets its contract: the judge's number, and where it is 0 the kernel of a plate that is ready.
-use mathlib.Core.Path.{◌≡◌, sym, ◌∙◌}
-use Rattle.model.specs.State.{LaterFits, later_refusal}
+-- `search::enter` meets its contract: the refusal that the judge draws, or the kernel of a plate that is ready.
+use mathlib.Core.Path.{sym}
+use Rattle.model.specs.State.{LaterFits}
 use Rattle.model.proofs.Later.{later_enters}
-use Rattle.invariants.proofs.Plate.{slice_bytes}
 use Rattle.search.proofs.enter.Goals as goal
-use Rattle.search.proofs.enter.Goals.{Else-number-ne0, Start}
-
-pub returns-then-number-ne0 : goal.returns-then-number-ne0
-returns-then-number-ne0 c =
-    let judged = c in record {
-      number_value = judged.judge_scan-number.ensures;
-      ready = λ e. absurd (c.if-number-ne0.true e);
-    }
+use Rattle.search.proofs.enter.Goals.{In_ok-judge_scan}
 
 -- what is known once nothing is refused
-module _ (e : Else-number-ne0) where
-  abbrev s : Start
-  s = search
-
-  taken : later_refusal s.args.measures s.args.psf.now s.args.gray.now s.args.dots.now
-      s.args.table.now s.args.stats ≡ 0
-  taken = sym e.judge_scan-number.ensures ∙ e.if-number-ne0.false
-
-  fits : LaterFits s.args.measures s.args.psf.now s.args.gray.now s.args.dots.now
-      s.args.table.now s.args.stats
-  fits = later_enters _ _ _ _ _ _ taken
+fits : (c : In_ok-judge_scan) → LaterFits c.args.setting.measures c.args.setting.psf.now c.args.setting.gray.now
+    c.args.dots.now c.args.table.now c.args.stats
+fits c = later_enters _ _ _ _ _ _ (sym c.in_ok-judge_scan.ensures)
 
 pub kernel-requires : goal.kernel-requires
-kernel-requires c = let e = c in (fits e).plate.halftone.psf_fits
+kernel-requires c = (fits (goal.at.kernel-requires c).In_ok-judge_scan).plate.halftone.psf_fits
 
 pub returns : goal.returns
-returns c =
-    let e = (goal.at.returns c).Else-number-ne0 in
-    let k = c in
-    let known = c in record {
-      number_value = sym (taken e);
-      ready = λ z. record {
-        later = fits e;
-        kernel = k.kernel.ensures;
-        bytes = slice_bytes known.shared_slice_known-2-1.given;
-      };
-    }
+returns c = (
+  sym c.in_ok-judge_scan.ensures,
+  record {
+    later = fits (goal.at.returns c).In_ok-judge_scan;
+    kernel = c.kernel.ensures;
+    bytes = c.known_bytes.ensures;
+  },
+)

@@ -1,6 +1,6 @@
 -- `search_count::add_rows` meets its contract: the columns hold the marks of the rows so far.
 use mathlib.Core.Path.{◌≡◌}
-use Prim.Native.Nat.{◌+◌, ◌-◌, ◌≤◌}
+use Prim.Native.Nat.{◌+◌}
 use lib.ListN.{length}
 use Rattle.model.proofs.Totals.{sum_below}
 use Rattle.search_count.specs.Marks.{Counts, widened}
@@ -8,8 +8,5 @@ use Rattle.search_count.proofs.add_rows.Given as goal
 
 abbrev pub invariant-loop-j : goal.invariant-loop-j
 invariant-loop-j l =
-    (l.j ≤ l.n) × (length l.columns ≡ length l.initial.columns)
-    × Counts (λ p. sum_below l.j (λ i. widened l.measures l.gray l.dots l.dot (l.row + i) p)) l.columns
-
-abbrev pub decreases-loop-j : goal.decreases-loop-j
-decreases-loop-j l = l.n - l.j
+    (length l.columns ≡ length l.initial.columns)
+    × Counts (λ p. sum_below l.j (λ i. widened l.measures l.cells.gray.now l.cells.dots.now l.cells.dot (l.row + i) p)) l.columns

@@ -1,33 +1,23 @@
 -- `search_count::span_trials` meets its contract: the swaps of the rows so far are counted, by marks.
-use mathlib.Core.Path.{◌≡◌, ap, ap₂}
-use Prim.Native.Nat.{ℕ, ◌+◌, ◌*◌, ◌≤◌}
+use Rattle.std.proofs.Common.{◌≡◌, ℕ, ◌+◌, ◌*◌, ◌≤◌, ap, arith}
 use native.Mathlib.Nat.{le_refl, add-mul, mul-le-mul, mul-le-mul_right}
-use native.Mathlib.Omega.{arith}
-use Rattle.model.specs.Error.{target_for}
+use Rattle.model.specs.Setting.{target_in}
 use Rattle.invariants.specs.Trials.{all_trials}
 use Rattle.search_count.specs.Marks.{marked_trials}
-use Rattle.search_count.proofs.Trials.{all_trials_lem, marked_few, sized, rows_in_order, row_before, row_on}
+use Rattle.search_count.proofs.Trials.{all_trials_lem, marked_few, rows_in_order}
 use Rattle.search_count.proofs.span_trials.Goals as goal
 use Rattle.search_count.proofs.span_trials.Goals.{After-row_trials-trials, After-row_trials-trials-then-col-to, Start}
-
-pub loop-row-init : goal.loop-row-init
-loop-row-init c =
-    let s = c in
-    let a = s.args in
-    let (first, last, order, end) = s.requires.col_lt_width in
-    let down = rows_in_order a.measures.width a.from.row a.from.col a.to.row a.to.col order last in
-    (down, first, order, omega arith)
 
 -- what the first n cells come to, and that this is not much
 module _ (s : Start) where
   abbrev marked : ℕ → ℕ
-  marked n = marked_trials s.args.measures s.args.gray.now s.args.dots.now n
+  marked = marked_trials s.args.setting.measures s.args.setting.gray.now s.args.dots.now
 
   abbrev first : ℕ
-  first = s.args.from.row * s.args.measures.width + s.args.from.col
+  first = s.args.from.row * s.args.setting.measures.width + s.args.from.col
 
   abbrev last : ℕ
-  last = s.args.to.row * s.args.measures.width + s.args.to.col
+  last = s.args.to.row * s.args.setting.measures.width + s.args.to.col
 
   few : (n : ℕ) → n ≤ last → marked n ≤ 65536 * 338
   few n h =
@@ -35,126 +25,70 @@ module _ (s : Start) where
       omega (
         arith,
         mul-le-mul f.halftone.high.1 f.halftone.wide.1,
-        marked_few s.args.measures s.args.gray.now s.args.dots.now f.reach_near n,
+        marked_few s.args.setting.measures s.args.setting.gray.now s.args.dots.now f.reach_near n,
       )
 
   -- the same by the definition
-  weighed : (n : ℕ)
-      → all_trials (target_for s.args.measures s.args.psf.now s.args.gray.now) s.args.measures.reach
-      s.args.dots.now n ≡ marked n
+  weighed : (n : ℕ) → all_trials (target_in s.args.setting) s.args.setting.measures.reach s.args.dots.now n ≡ marked n
   weighed n =
       let f = s.requires.plate_fits in
-      all_trials_lem s.args.measures s.args.psf.now s.args.gray.now s.args.dots.now f.reach_near
-      f.halftone.bits (omega arith) n
-
-pub row_trials-trials-requires : goal.row_trials-trials-requires
-row_trials-trials-requires c =
-    let s = c in
-    let l = c in
-    let a = s.args in
-    let on =
-    row_before a.measures.width a.measures.height l.loop-row.row a.to.row a.to.col
-    c.loop-row-test.true s.requires.col_lt_width.3 (omega arith) in record {
-      sized = (sized s.requires.plate_fits, on);
-      from_le_to = (omega arith, omega arith);
-    }
+      let t = s.args.setting in
+      all_trials_lem t.measures t.psf.now t.gray.now s.args.dots.now f.reach_near f.halftone.bits (omega arith) n
 
 -- the end of a row is the start of the next
 next_row : (r W : ℕ) → r * W + W ≡ (r + 1) * W + 0
 next_row r W = omega (arith, add-mul r 1 W)
 
--- a row more
-module _ (c : After-row_trials-trials) where
-  abbrev s : Start
-  s = search
-
-  abbrev l : After-row_trials-trials
-  l = c
-
-  abbrev next : ℕ
-  next = (l.loop-row.row + 1) * s.args.measures.width + 0
-
-  within : next ≤ last s
-  unfolding s l
-  within =
-      let t = c in
-      let under : l.loop-row.row + 1 ≤ s.args.to.row = omega arith in
-      omega (arith, mul-le-mul_right s.args.measures.width under)
-
-  counted : l.loop-row.trials + c.row_trials-trials.result + marked s (first s) ≡ marked s next
-  unfolding s l
-  counted =
-      omega (
-        arith,
-        c.row_trials-trials.ensures,
-        l.loop-row.invariant.3,
-        ap (marked s) (next_row l.loop-row.row s.args.measures.width),
-      )
-
 pub overflow_add-trials : goal.overflow_add-trials
-unfolding s l
-overflow_add-trials c = omega (arith, counted c, few (s c) (next c) (within c))
-
-pub overflow_add-row : goal.overflow_add-row
-overflow_add-row c = omega arith
-
-pub loop-row-smaller : goal.loop-row-smaller
-loop-row-smaller c = omega arith
-
-pub loop-row-preserved : goal.loop-row-preserved
-unfolding s l
-loop-row-preserved c = (omega arith, omega arith, within c, counted c)
-
-pub row_trials-trials-requires-then-col-to : goal.row_trials-trials-requires-then-col-to
-row_trials-trials-requires-then-col-to c =
-    let s = c in
-    let l = c in
-    let a = s.args in
-    let on = row_on a.measures.width a.measures.height a.to.row a.to.col s.requires.col_lt_width.3 (omega arith) in record {
-      sized = (sized s.requires.plate_fits, omega arith);
-      from_le_to = (omega arith, omega arith);
-    }
-
--- the part of the last row
-module _ (c : After-row_trials-trials-then-col-to) where
-  abbrev start : Start
-  start = search
-
-  abbrev left : After-row_trials-trials-then-col-to
-  left = c
-
-  ended : left.loop-row.trials + c.row_trials-trials-then-col-to.result + marked start (first start) ≡ marked start (last start)
-  unfolding start left
-  ended =
-      let row : left.loop-row.row ≡ start.args.to.row = omega arith in
-      omega (
-        arith,
-        c.row_trials-trials-then-col-to.ensures,
-        left.loop-row.invariant.3,
-        ap (λ y. marked start (y * start.args.measures.width + start.args.to.col)) row,
-      )
-
-pub overflow_add-trials-then-col-to : goal.overflow_add-trials-then-col-to
-unfolding start left
-overflow_add-trials-then-col-to c = omega (arith, ended c, few (start c) (last (start c)) (le_refl _))
-
-pub returns-then-col-to : goal.returns-then-col-to
-unfolding start left
-returns-then-col-to c =
-    let s = start c in
-    omega (arith, ended c, weighed s (first s), weighed s (last s))
-
-pub returns-else-col-to : goal.returns-else-col-to
-returns-else-col-to c =
-    let s : Start = search in
-    let l = c in
-    let row : l.loop-row.row ≡ s.args.to.row = omega arith in
-    let here = ap (λ y. y * s.args.measures.width) row in
-    let col : l.loop-row.col ≡ s.args.to.col = omega arith in
+overflow_add-trials c =
+    let s = (goal.at.overflow_add-trials c).Start in
+    let W = c.args.setting.measures.width in
+    let under : c.loop-row.row + 1 ≤ c.args.to.row = omega arith in
+    let next : (c.loop-row.row + 1) * W + 0 ≤ last s = omega (arith, mul-le-mul_right W under) in
     omega (
       arith,
-      l.loop-row.invariant.3,
-      ap₂ (λ y x. marked s (y * s.args.measures.width + x)) row col,
+      c.row_trials-trials.ensures,
+      c.loop-row.invariant.2,
+      ap (marked s) (next_row c.loop-row.row W),
+      few s ((c.loop-row.row + 1) * W + 0) next,
+    )
+
+-- the row after the last whole one
+ended : (s : Start) (row : ℕ) → s.args.from.row ≤ row → (s.args.from.row ≤ s.args.to.row → row ≤ s.args.to.row)
+    → s.args.to.row ≤ row → row ≡ s.args.to.row
+ended s row low high past =
+    let w = s.args.setting.measures.width in
+    let (first, last, order, end) = s.requires.col_lt_width in
+    let down = rows_in_order w s.args.from.row s.args.from.col s.args.to.row s.args.to.col order last in
+    omega (arith, high down)
+
+pub overflow_add-trials-then-col-to : goal.overflow_add-trials-then-col-to
+overflow_add-trials-then-col-to c =
+    let s = (goal.at.overflow_add-trials-then-col-to c).Start in
+    let row = ended s c.loop-row.row c.loop-row.auto.row c.loop-row.auto.row-end c.loop-row-test.false in
+    omega (
+      arith,
+      c.row_trials-trials-then-col-to.ensures,
+      rw row at c.loop-row.invariant.2,
+      few s (last s) (le_refl _),
+    )
+
+pub returns-then-col-to : goal.returns-then-col-to
+returns-then-col-to c =
+    let s = (goal.at.returns-then-col-to c).Start in
+    let row = ended s c.loop-row.row c.loop-row.auto.row c.loop-row.auto.row-end c.loop-row-test.false in
+    omega (
+      arith,
+      c.row_trials-trials-then-col-to.ensures,
+      rw row at c.loop-row.invariant.2,
       weighed s (first s),
       weighed s (last s),
     )
+
+pub returns-else-col-to : goal.returns-else-col-to
+returns-else-col-to c =
+    let s = (goal.at.returns-else-col-to c).Start in
+    let row = ended s c.loop-row.row c.loop-row.auto.row c.loop-row.auto.row-end c.loop-row-test.false in
+    let (_, before, count) = rw row at c.loop-row.invariant in
+    let col : c.loop-row.col ≡ c.args.to.col = omega (arith, before) in
+    omega (arith, rw col at count, weighed s (first s), weighed s (last s))

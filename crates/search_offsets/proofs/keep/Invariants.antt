@@ -2,7 +2,7 @@
 use mathlib.Core.Bool.{Bool, true, false}
 use mathlib.Core.List.{List, [], ◌∷◌, ◌++◌, append-nil}
 use mathlib.Core.Path.{◌≡◌, refl, sym, ◌∙◌, ap}
-use Prim.Native.Nat.{ℕ, ◌+◌, ◌-◌, ◌≤◌, ◌<◌}
+use Prim.Native.Nat.{ℕ, ◌+◌, ◌≤◌, ◌<◌}
 use native.Mathlib.Numerals.{add-one}
 use native.Mathlib.Omega.{arith}
 use lib.ListN.{length, get_or, take, set, length-set}
@@ -47,9 +47,9 @@ module _ {codes : List ℕ} {reach : ℕ} {out₀ out : List ℕ} {count k : ℕ
       ∙ kept_more reach (take k codes) code
       ∙ ap (λ b. kept reach (take k codes) ++ pick b (code ∷ []) []) e)
 
-  pub kept-one : length codes ≤ length out → within reach code ≡ true
+  pub kept_one : length codes ≤ length out → within reach code ≡ true
       → Keeping codes reach out₀ (set out count code) (count + 1) (k + 1)
-  kept-one fits e =
+  kept_one fits e =
       record {
         passed = omega arith;
         few = omega arith;
@@ -70,8 +70,5 @@ module _ {codes : List ℕ} {reach : ℕ} {out₀ out : List ℕ} {count k : ℕ
         keeps = s.keeps ∙ sym (append-nil (kept reach (take k codes))) ∙ next e;
       }
 
-abbrev pub invariant-loop-k : goal.invariant-loop-k
-invariant-loop-k l = Keeping l.codes l.reach l.initial.out l.out l.count l.k
-
-abbrev pub decreases-loop-k : goal.decreases-loop-k
-decreases-loop-k l = length l.codes - l.k
+abbrev pub invariant-loop-code : goal.invariant-loop-code
+invariant-loop-code l = Keeping l.codes l.reach l.initial.out l.out l.count l.code-index

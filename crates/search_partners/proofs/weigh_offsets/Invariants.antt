@@ -1,5 +1,5 @@
 -- `search_partners::weigh_offsets` meets its contract: each entry from the kernel at its offset.
-use Rattle.std.proofs.Common.{◌-◌, ◌≤◌, length, get_or, pos}
+use Rattle.std.proofs.Common.{length, get_or, pos}
 use Rattle.model.proofs.Basic.{Filling}
 use Rattle.invariants.specs.Partners.{row_of, column_of, worth_at}
 use Rattle.search_partners.proofs.weigh_offsets.Given as goal
@@ -7,7 +7,3 @@ use Rattle.search_partners.proofs.weigh_offsets.Given as goal
 abbrev pub invariant-loop-k : goal.invariant-loop-k
 invariant-loop-k l =
     Filling (pos 0) (λ j. worth_at l.radius l.c (row_of (get_or l.codes j 0)) (column_of (get_or l.codes j 0))) (length l.codes) l.k l.worths
-    × (l.k ≤ length l.codes)
-
-abbrev pub decreases-loop-k : goal.decreases-loop-k
-decreases-loop-k l = length l.codes - l.k

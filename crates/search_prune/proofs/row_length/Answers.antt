@@ -1,6 +1,5 @@
 -- `search_prune::row_length` meets its contract.
-use mathlib.Core.Path.{refl}
-use borrow.Author.Tests.{lt-ltb, le-ltb}
+use Rattle.std.proofs.Common.{refl, lt-ltb, le-ltb}
 use Rattle.search_prune.specs.Grid.{row_length}
 use Rattle.search_prune.proofs.row_length.Goals as goal
 

@@ -1,29 +1,24 @@
 -- `search_prune::row_lowers` meets its contract: where no sum is below 0, every trial fails.
-use mathlib.Core.Path.{◌∙◌}
-use native.Mathlib.Omega.{arith}
-use lib.Dec.{lit<}
+use Rattle.std.proofs.Common.{◌+◌, ◌-◌, ◌<◌, ◌≤◌, pos, nat_abs, ◌∙◌, arith}
+use Rattle.std.proofs.lemmas.List.{get_or-take, get_or-drop, length-take, length-drop}
+use mathlib.Core.Bool.{not, and-false}
+use lib.Dec.{eqb, lit<}
+use lib.ListN.{length, get_or, drop}
 use mir.Syntax.{w32}
-use mir.Val.{of_z}
-use Rattle.algebra.proofs.Machine.{Holds, of_small, size_of}
+use Rattle.algebra.proofs.Machine.{of_small}
 use Rattle.model.specs.Error.{most_filtered}
-use Rattle.search_prune.proofs.Grid.{sums_fail}
 use Rattle.search_prune.proofs.row_lowers.Goals as goal
-use Rattle.search_prune.proofs.row_lowers.Goals.{Start}
 
--- the cell's entry of the table, as its local holds it
-read : (s : Start) → Holds w32 (of_z w32 s.args.value) s.args.value most_filtered
-read s =
-    of_small w32 s.args.value (rw s.requires.dot_value.1 (s.requires.run_test.tabled.small.each s.args.m)) (lit< tt)
-
-pub any_below-requires : goal.any_below-requires
-any_below-requires c =
-    let s : Start = search in record {
-      n_in_bounds = (omega (arith, s.requires.run_test.tabled.long), s.requires.run_test.laid);
-      value_bound = (size_of (read s), s.requires.run_test.tabled.small, s.requires.run_test.small);
+pub returns-else-any_below : goal.returns-else-any_below
+returns-else-any_below c _ =
+    let a = c.args in
+    let small : nat_abs a.value ≤ most_filtered = rw c.requires.dot_value.1 (c.requires.run_test.tabled.small.each a.m) in
+    let value = (of_small w32 a.value small (lit< tt)).value ∙ c.requires.dot_value.1 in
+    let n = a.from + length a.worths.now - a.from in record {
+      each = λ k h.
+          let within : k < n = omega arith in
+          let sum =
+          rw (c.requires.dot_value.0, value, get_or-take n (drop a.from a.table.now) k (pos 0) within, get_or-drop a.from a.table.now k (pos 0))
+          at ((c.any_below.ensures c.if-any_below.false).each k (simp (length-take, length-drop) (omega arith))) in
+          rw sum (and-false (not (eqb (get_or a.dots.now a.m 0) (get_or a.dots.now (a.from + k) 0))));
     }
-
-pub returns : goal.returns
-returns c e =
-    let s : Start = search in
-    let t = c in
-    sums_fail s.requires.dot_value.0 ((read s).value ∙ s.requires.dot_value.1) (t.any_below.ensures c.if-any_below.false)

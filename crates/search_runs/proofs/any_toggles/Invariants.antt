@@ -1,12 +1,8 @@
 -- `search_runs::any_toggles` meets its contract: as long as nothing was found, no toggle so far lowers E.
 use mathlib.Core.Bool.{false}
 use mathlib.Core.Path.{◌≡◌}
-use Prim.Native.Nat.{◌-◌, ◌≤◌}
 use Rattle.search_runs.specs.Run.{TogglesClear}
 use Rattle.search_runs.proofs.any_toggles.Given as goal
 
 abbrev pub invariant-loop-k : goal.invariant-loop-k
-invariant-loop-k l = (l.any ≡ false → TogglesClear l.peak l.dots l.table l.from l.k) × (l.k ≤ l.n)
-
-abbrev pub decreases-loop-k : goal.decreases-loop-k
-decreases-loop-k l = l.n - l.k
+invariant-loop-k l = l.any ≡ false → TogglesClear l.peak l.dots l.table l.from l.k

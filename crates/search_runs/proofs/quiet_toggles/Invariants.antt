@@ -1,10 +1,6 @@
 -- `search_runs::quiet_toggles` meets its contract: no toggle so far lowers E.
-use Prim.Native.Nat.{◌-◌, ◌≤◌}
 use Rattle.search_runs.specs.Run.{TogglesClear}
 use Rattle.search_runs.proofs.quiet_toggles.Given as goal
 
 abbrev pub invariant-loop-k : goal.invariant-loop-k
-invariant-loop-k l = TogglesClear l.peak l.dots l.table l.from l.k × (l.k ≤ l.n)
-
-abbrev pub decreases-loop-k : goal.decreases-loop-k
-decreases-loop-k l = l.n - l.k
+invariant-loop-k l = TogglesClear l.peak l.dots l.table l.from l.k

@@ -7,8 +7,4 @@ use Rattle.search_runs.proofs.swaps_clear.Given as goal
 
 abbrev pub invariant-loop-j : goal.invariant-loop-j
 invariant-loop-j l =
-    ((i : ℕ) → l.j ≤ i → i < length l.codes → ClearAt l.width l.m l.dots l.table (get_or l.codes i 0) (get_or l.worths i (pos 0)) l.n)
-    × (l.j ≤ length l.codes)
-
-abbrev pub decreases-loop-j : goal.decreases-loop-j
-decreases-loop-j l = l.j
+    (i : ℕ) → l.j ≤ i → i < length l.codes → ClearAt l.width l.m l.dots l.table (get_or l.codes i 0) (get_or l.worths i (pos 0)) l.n

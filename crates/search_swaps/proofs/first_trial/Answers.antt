@@ -8,9 +8,8 @@ use Rattle.search_swaps.proofs.first_trial.Goals as goal
 
 pub may_lower-requires : goal.may_lower-requires
 may_lower-requires c =
-    let s = c in
-    let (judged, on) = s.requires.judged in
-    let grid = s.requires.holds_offsets.1 in
+    let (judged, on) = c.requires.judged in
+    let grid = c.requires.holds_offers.grid in
     let f = judged.plate.halftone in record {
       row_lt_height = (on.row_below, on.col_below, f.wide.1, f.high.1, grid.near);
       tabled = (judged_tabled judged, f.dots_length);
@@ -20,14 +19,13 @@ may_lower-requires c =
 pub returns-then-may_lower : goal.returns-then-may_lower
 returns-then-may_lower c = (omega arith, record { each = λ j h. absurd (not-suc-le-zero h) })
 
-pub returns : goal.returns
-returns c =
-    let s = c in
-    let tested = c in
-    let (judged, on) = s.requires.judged in
-    let (held, grid) = s.requires.holds_offsets in (
+pub returns-else-may_lower : goal.returns-else-may_lower
+returns-else-may_lower c =
+    let (judged, on) = c.requires.judged in
+    let held = c.requires.holds_offers.codes in
+    let grid = c.requires.holds_offers.grid in (
       le_refl _,
       failed_all _ held _ _ (λ k h.
           let (y, x) = offset_near held grid.near k h in
-          none_lowers judged on grid (tested.may_lower.ensures c.if-may_lower.false) _ _ y x),
+          none_lowers judged on grid (c.may_lower.ensures c.if-may_lower.false) _ _ y x),
     )

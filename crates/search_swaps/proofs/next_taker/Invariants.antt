@@ -2,22 +2,22 @@
 -- cell is the first that takes one.
 use Prim.Native.Nat.{◌*◌, ◌-◌, ◌≤◌}
 use lib.ListN.{length}
-use Rattle.model.specs.Error.{target_for}
+use Rattle.model.specs.Setting.{target_in}
 use Rattle.invariants.specs.Plate.{OnWay, cell_of}
 use Rattle.invariants.specs.Trials.{Failed, Quiet}
 use Rattle.search_swaps.proofs.next_taker.Given as goal
 
 abbrev pub invariant-partners : goal.invariant-partners
-invariant-partners l = (l.k ≤ length l.codes) × Failed (target_for l.measures l.psf l.gray) l.measures.reach l.dots (cell_of l.measures.width l.at) l.k
+invariant-partners l = (l.k ≤ length l.offers.codes.now) × Failed (target_in l.setting) l.setting.measures.reach l.dots (cell_of l.setting.measures.width l.at) l.k
 
 abbrev pub decreases-partners : goal.decreases-partners
-decreases-partners l = length l.codes - l.k
+decreases-partners l = length l.offers.codes.now - l.k
 
 abbrev pub invariant-loop-at : goal.invariant-loop-at
 invariant-loop-at l =
-    OnWay l.measures l.at
-    × Quiet (target_for l.measures l.psf l.gray) l.measures.reach l.dots (cell_of l.measures.width l.initial.at)
-    (cell_of l.measures.width l.at)
+    OnWay l.setting.measures l.at
+    × Quiet (target_in l.setting) l.setting.measures.reach l.dots (cell_of l.setting.measures.width l.initial.at)
+    (cell_of l.setting.measures.width l.at)
 
 abbrev pub decreases-loop-at : goal.decreases-loop-at
-decreases-loop-at l = l.measures.height * l.measures.width - cell_of l.measures.width l.at
+decreases-loop-at l = l.setting.measures.height * l.setting.measures.width - cell_of l.setting.measures.width l.at

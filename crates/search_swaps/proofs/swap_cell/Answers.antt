@@ -7,7 +7,8 @@ use native.Mathlib.Omega.{arith}
 use lib.ListN.{length, get_or}
 use Rattle.model.specs.declared.Cell.{Cell}
 use Rattle.model.specs.Change.{swap, lowers}
-use Rattle.model.specs.Error.{Target, target_for}
+use Rattle.model.specs.Setting.{target_in}
+use Rattle.model.specs.Error.{Target}
 use Rattle.model.specs.Partners.{lands, partner}
 use Rattle.model.specs.Scan.{suits}
 use Rattle.model.proofs.Attempts.{entry_stats}
@@ -24,17 +25,17 @@ use Rattle.search_swaps.proofs.swap_cell.Goals.{Start}
 
 -- what is known from the start
 module _ (s : Start) where
-  abbrev on : OnPlate s.args.measures s.args.at
+  abbrev on : OnPlate s.args.setting.measures s.args.at
   on = s.requires.on_plate.0
 
-  abbrev held : HoldsOffsets s.args.measures.reach s.args.codes.now
+  abbrev held : HoldsOffsets s.args.setting.measures.reach s.args.codes.now
   held = s.requires.on_plate.2
 
   abbrev target : Target
-  target = target_for s.args.measures s.args.psf.now s.args.gray.now
+  target = target_in s.args.setting
 
   abbrev m : ℕ
-  m = cell_of s.args.measures.width s.args.at
+  m = cell_of s.args.setting.measures.width s.args.at
 
   -- the offset found
   abbrev code : ℕ
@@ -59,20 +60,20 @@ module _ (start : Start) where
 
   lowersAt-is : (suits (target start) start.args.dots.now (m start) (offset_of (code start)) ≡ true)
       × (lowers (target start) start.args.dots.now
-      (swap start.args.dots.now (m start) (partner start.args.measures.width (m start) (offset_of (code start))))
+      (swap start.args.dots.now (m start) (partner start.args.setting.measures.width (m start) (offset_of (code start))))
       ≡ true)
   lowersAt-is = (and-eq-true_iff _ _).0 took
 
   suited : Suited (target start) start.args.dots.now (m start) (offset_of (code start))
   suited = suits_so (target start) start.args.dots.now (m start) (offset_of (code start)) lowersAt-is.0
 
-  lands_there : lands start.args.measures.width start.args.measures.height (m start) (offset_of (code start)) ≡ true
+  lands_there : lands start.args.setting.measures.width start.args.setting.measures.height (m start) (offset_of (code start)) ≡ true
   lands_there = suited.lands_there
 
   abbrev to : Cell
   to = record { row = row + row_of (code start) - 6; col = col + column_of (code start) - 6 }
 
-  there : OnPlate start.args.measures to
+  there : OnPlate start.args.setting.measures to
   there =
       partner_on (ready_judged start.requires.ready) (on start) (row_of (code start)) (column_of (code start)) lands_there
 
@@ -80,67 +81,62 @@ module _ (start : Start) where
   inside = (landed _ _ row col (on start).col_below (row_of (code start)) (column_of (code start)) lands_there).0
 
   -- the swap with it lowers E
-  lower : lowers (target start) start.args.dots.now (cell_swap start.args.measures start.args.dots.now
+  lower : lowers (target start) start.args.dots.now (cell_swap start.args.setting.measures start.args.dots.now
       start.args.at to) ≡ true
   lower =
       ap (λ k. lowers (target start) start.args.dots.now (swap start.args.dots.now (m start) k))
-      (sym (stands _ start.args.measures.height row col (on start).col_below (row_of (code start))
+      (sym (stands _ start.args.setting.measures.height row col (on start).col_below (row_of (code start))
       (column_of (code start)) lands_there))
       ∙ lowersAt-is.1
 
-  unlike : Unlike start.args.measures start.args.dots.now start.args.at to
+  unlike : Unlike start.args.setting.measures start.args.dots.now start.args.at to
   unlike =
       subst (λ k. get_or start.args.dots.now (m start) 0 ≡ get_or start.args.dots.now k 0 → ⊥)
-      (stands _ start.args.measures.height row col (on start).col_below (row_of (code start))
+      (stands _ start.args.setting.measures.height row col (on start).col_below (row_of (code start))
       (column_of (code start)) lands_there) suited.unlike
 
 pub bounds-codes-found : goal.bounds-codes-found
 bounds-codes-found c = let a : Start = search in short a
 
-pub overflow_cast-to : goal.overflow_cast-to
-overflow_cast-to c = let a : Start = search in record { fits = omega (arith, near a) }
-
 pub overflow_add-to : goal.overflow_add-to
 overflow_add-to c =
     let a : Start = search in
     let f = a.requires.ready.later.plate.halftone in
-    record { fits = omega (arith, near a, (on a).row_below, f.high) }
+    record { fits = omega (arith, c.digits-offset.ensures.digits_small, (on a).row_below, f.high) }
 
 pub overflow_sub-to : goal.overflow_sub-to
-overflow_sub-to c = let a : Start = search in (inside a).0
-
-pub overflow_cast-to-2 : goal.overflow_cast-to-2
-overflow_cast-to-2 c = let a : Start = search in record { fits = omega (arith, near a) }
+overflow_sub-to c = let a : Start = search in omega (arith, (inside a).0, c.digits-offset.ensures.digits_are)
 
 pub overflow_add-to-2 : goal.overflow_add-to-2
 overflow_add-to-2 c =
     let a : Start = search in
     let f = a.requires.ready.later.plate.halftone in
-    record { fits = omega (arith, near a, (on a).col_below, f.wide) }
+    record { fits = omega (arith, c.digits-offset.ensures.digits_small, (on a).col_below, f.wide) }
 
 pub overflow_sub-to-2 : goal.overflow_sub-to-2
-overflow_sub-to-2 c = let a : Start = search in (inside a).1
+overflow_sub-to-2 c = let a : Start = search in omega (arith, (inside a).1, c.digits-offset.ensures.digits_are)
 
 pub swap-answer-requires : goal.swap-answer-requires
 swap-answer-requires c =
-    let a : Start = search in record {
+    let a : Start = search in
+    let (down, right) = c.digits-offset.ensures.digits_are in record {
       ready = a.requires.ready;
-      on_plate = (on a, there a, unlike a);
+      on_plate = (on a, rw (down, right) (there a), rw (down, right) (unlike a));
     }
 
 pub advance-requires : goal.advance-requires
-advance-requires c = let s = c in s.requires.on_plate.1
+advance-requires c = c.requires.on_plate.1
 
 pub returns : goal.returns
 returns c =
     let a : Start = search in
-    let tried = c in
+    let (down, right) = c.digits-offset.ensures.digits_are in
     let g = a.args in
     let found = g.found in
     let taken =
-    swap_taken (target a) g.measures.reach g.dots.now g.progress (m a) found
+    swap_taken (target a) g.setting.measures.reach g.dots.now g.progress (m a) found
     (subst (λ n. found < n) (held a).long (short a)) ((held a).at found (short a)) (took a)
     (stands _ _ _ _ (on a).col_below (row_of (code a)) (column_of (code a)) (lands_there a)) in
-    attempt_advances (target a) g.dots.now g.progress (cell_swap g.measures g.dots.now g.at (to a))
+    attempt_advances (target a) g.dots.now g.progress (cell_swap g.setting.measures g.dots.now g.at (to a))
     _ _ (entry_stats _ _ _ _ _ _ a.requires.ready.later) (λ e. taken) (λ e. absurd (true≢false (sym (lower a) ∙ e))) _
-    c.advance.ensures tried.swap-answer.ensures
+    c.advance.ensures (rw (down, right) at c.swap-answer.ensures)

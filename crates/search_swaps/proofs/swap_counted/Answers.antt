@@ -16,39 +16,32 @@ use Rattle.search_swaps.proofs.swap_counted.Goals as goal
 use Rattle.search_swaps.proofs.swap_counted.Goals.{After-lay_worths, After-weigh_offsets}
 
 pub within_reach-count-requires : goal.within_reach-count-requires
-within_reach-count-requires c = let s = c in (s.requires.later.plate.reach_near, lit≤ tt)
+within_reach-count-requires c = (c.requires.later.plate.reach_near, lit≤ tt)
 
 pub slice_bounds-weigh_offsets-end-2 : goal.slice_bounds-weigh_offsets-end-2
 slice_bounds-weigh_offsets-end-2 c = part_whole _ _ (omega arith)
 
 pub weigh_offsets-requires : goal.weigh_offsets-requires
 weigh_offsets-requires c =
-    let s = c in
-    let w = c in
-    (kernel_square (ready_judged s.requires), sym (part_whole _ _ (omega arith)) ∙ w.within_reach-count.ensures.upper_bound.1)
+    (kernel_square (ready_judged c.requires), sym (part_whole _ _ (omega arith)) ∙ c.within_reach-count.ensures.upper_bound.1)
 
 pub grid_size-n-requires : goal.grid_size-n-requires
-grid_size-n-requires c = let s = c in s.requires.later.plate.reach_near
+grid_size-n-requires c = c.requires.later.plate.reach_near
 
 pub slice_bounds-lay_worths-end : goal.slice_bounds-lay_worths-end
 slice_bounds-lay_worths-end c = part_whole _ _ (omega arith)
 
 pub lay_worths-requires : goal.lay_worths-requires
-lay_worths-requires c =
-    let s = c in
-    let g = c in (
-      kernel_square (ready_judged s.requires),
-      s.requires.later.plate.reach_near,
-      sym (part_whole _ _ g.grid_size-n.ensures.1) ∙ g.grid_size-n.ensures.0,
-    )
+lay_worths-requires c = (
+  kernel_square (ready_judged c.requires),
+  c.requires.later.plate.reach_near,
+  sym (part_whole _ _ c.grid_size-n.ensures.1) ∙ c.grid_size-n.ensures.0,
+)
 
 -- the worths and the rows of worths, lent again
 module _ (w : After-weigh_offsets) where
-  abbrev r : After-weigh_offsets
-  r = w
-
   abbrev count : ℕ
-  count = r.within_reach-count.result
+  count = w.within_reach-count.result
 
   abbrev filled : List ℤ
   filled = w.weigh_offsets.new.worths
@@ -60,17 +53,14 @@ module _ (w : After-weigh_offsets) where
   worths-long = w.weigh_offsets.auto.worths
 
 module _ (g : After-lay_worths) where
-  abbrev size : After-lay_worths
-  size = g
-
   abbrev n : ℕ
-  n = size.grid_size-n.result
+  n = g.grid_size-n.result
 
   abbrev rows : List ℤ
   rows = g.lay_worths.new.grid
 
   rows_few : n ≤ length (replicate 208 (pos 0))
-  rows_few = size.grid_size-n.ensures.1
+  rows_few = g.grid_size-n.ensures.1
 
   rows_long : length rows ≡ length (take n (replicate 208 (pos 0)))
   rows_long = g.lay_worths.auto.grid
@@ -80,9 +70,9 @@ slice_bounds-worths-end-2 c =
     let w = (goal.at.slice_bounds-worths-end-2 c).After-weigh_offsets in
     again_fits (count w) (replicate 168 (pos 0)) (filled w) (few w) (worths-long w)
 
-pub slice_bounds-swap_by-end-2 : goal.slice_bounds-swap_by-end-2
-slice_bounds-swap_by-end-2 c =
-    let w = (goal.at.slice_bounds-swap_by-end-2 c).After-weigh_offsets in
+pub slice_bounds-offers-end-2 : goal.slice_bounds-offers-end-2
+slice_bounds-offers-end-2 c =
+    let w = (goal.at.slice_bounds-offers-end-2 c).After-weigh_offsets in
     again_whole (count w) (replicate 168 (pos 0)) (filled w) (few w) (worths-long w)
 
 pub slice_bounds-grid-end-2 : goal.slice_bounds-grid-end-2
@@ -90,25 +80,24 @@ slice_bounds-grid-end-2 c =
     let g = (goal.at.slice_bounds-grid-end-2 c).After-lay_worths in
     again_fits (n g) (replicate 208 (pos 0)) (rows g) (rows_few g) (rows_long g)
 
-pub slice_bounds-swap_by-end-3 : goal.slice_bounds-swap_by-end-3
-slice_bounds-swap_by-end-3 c =
-    let g = (goal.at.slice_bounds-swap_by-end-3 c).After-lay_worths in
+pub slice_bounds-offers-end-3 : goal.slice_bounds-offers-end-3
+slice_bounds-offers-end-3 c =
+    let g = (goal.at.slice_bounds-offers-end-3 c).After-lay_worths in
     again_whole (n g) (replicate 208 (pos 0)) (rows g) (rows_few g) (rows_long g)
 
 pub swap_by-requires : goal.swap_by-requires
 swap_by-requires c =
     let g = (goal.at.swap_by-requires c).After-lay_worths in
     let w = (goal.at.swap_by-requires c).After-weigh_offsets in
-    let s = c in
-    let m = s.args.measures in record {
-      ready = s.requires;
-      holds_offsets = (
-        (r w).within_reach-count.ensures.holds_offsets,
-        subst (HoldsWorths m.radius s.args.c.now (take (count w) (r w).within_reach-count.new.out))
+    let m = c.args.setting.measures in record {
+      ready = c.requires;
+      holds_offers = record {
+        codes = w.within_reach-count.ensures.holds_offsets;
+        worths = subst (HoldsWorths m.radius c.args.c.now (take (count w) w.within_reach-count.new.out))
             (sym (again_is (count w) (replicate 168 (pos 0)) (filled w) (few w) (worths-long w)))
-            w.weigh_offsets.ensures,
-        subst (GridFits m.radius s.args.c.now m.reach)
+            w.weigh_offsets.ensures;
+        grid = subst (GridFits m.radius c.args.c.now m.reach)
             (sym (again_is (n g) (replicate 208 (pos 0)) (rows g) (rows_few g) (rows_long g)))
-            g.lay_worths.ensures,
-      );
+            g.lay_worths.ensures;
+      };
     }

@@ -1,9 +1,8 @@
--- `search_tally::unlocked` meets its contract: so far the unlocked cells before `i` are counted.
+-- `search_tally::unlocked` meets its contract: so far the unlocked cells before this one are counted.
 use mathlib.Core.Bool.{not}
 use mathlib.Core.List.{List}
 use mathlib.Core.Path.{◌≡◌}
-use Prim.Native.Nat.{ℕ, ◌-◌, ◌≤◌}
-use lib.ListN.{length}
+use Prim.Native.Nat.{ℕ, ◌≤◌}
 use Rattle.model.specs.Basic.{one_if, tabulate}
 use Rattle.model.specs.Lock.{locked}
 use Rattle.model.specs.Psf.{total}
@@ -13,8 +12,5 @@ use Rattle.search_tally.proofs.unlocked.Given as goal
 abbrev pub open-cells : (gray : List ℕ) (k : ℕ) → ℕ
 open-cells gray k = total (tabulate k (λ n. one_if (not (locked gray n))))
 
-abbrev pub invariant-loop-i : goal.invariant-loop-i
-invariant-loop-i l = (l.i ≤ length l.gray) × (l.count ≤ l.i) × (l.count ≡ open-cells l.gray l.i)
-
-abbrev pub decreases-loop-i : goal.decreases-loop-i
-decreases-loop-i l = length l.gray - l.i
+abbrev pub invariant-loop-here : goal.invariant-loop-here
+invariant-loop-here l = (l.count ≤ l.here-index) × (l.count ≡ open-cells l.gray l.here-index)

@@ -5,16 +5,17 @@ use mir.Syntax.{w64}
 use mir.Val.{to_z, of_z}
 use Rattle.algebra.proofs.Machine.{read_back}
 use Rattle.model.specs.Change.{Move}
-use Rattle.model.specs.Error.{Target, target_for}
+use Rattle.model.specs.Error.{Target}
+use Rattle.model.specs.Setting.{target_in}
 use Rattle.invariants.specs.Plate.{cell_swap, Weighs}
 use Rattle.invariants.proofs.Plate.{ready_judged, attempt_declined, attempt_accepted}
 use Rattle.search_trial.proofs.swap.Goals as goal
 use Rattle.search_trial.proofs.swap.Goals.{After-weigh_swap-delta, Start}
 
 pub weigh_swap-delta-requires : goal.weigh_swap-delta-requires
-weigh_swap-delta-requires c = let s = c in record {
-  judged = ready_judged s.requires.ready;
-  on_plate = s.requires.on_plate;
+weigh_swap-delta-requires c = record {
+  judged = ready_judged c.requires.ready;
+  on_plate = c.requires.on_plate;
 }
 
 -- the change as its local holds it
@@ -23,10 +24,10 @@ module _ (w : After-weigh_swap-delta) where
   s = search
 
   abbrev t : Target
-  t = target_for s.args.measures s.args.psf.now s.args.gray.now
+  t = target_in s.args.setting
 
   abbrev v : Move
-  v = cell_swap s.args.measures s.args.dots.now s.args.at s.args.to
+  v = cell_swap s.args.setting.measures s.args.dots.now s.args.at s.args.to
 
   abbrev delta : ℤ
   delta = to_z w64 (of_z w64 w.weigh_swap-delta.result)
@@ -45,11 +46,9 @@ make_swap-swapped-requires c = let w = (goal.at.make_swap-swapped-requires c).Af
 
 pub returns-then-lowers : goal.returns-then-lowers
 returns-then-lowers c =
-    let made = c in
-    let lower = c in
     let w = (goal.at.returns-then-lowers c).After-weigh_swap-delta in
-    attempt_accepted (weighs w) (s w).args.stats (sym lower.lowers.ensures ∙ lower.if-lowers.true)
-    made.make_swap-swapped.ensures
+    attempt_accepted (weighs w) (s w).args.stats (sym c.lowers.ensures ∙ c.if-lowers.true)
+    c.make_swap-swapped.ensures
 
 pub returns : goal.returns
 returns c =

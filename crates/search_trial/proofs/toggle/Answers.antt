@@ -5,14 +5,15 @@ use mir.Syntax.{w64}
 use mir.Val.{to_z, of_z}
 use Rattle.algebra.proofs.Machine.{read_back}
 use Rattle.model.specs.Change.{Move}
-use Rattle.model.specs.Error.{Target, target_for}
+use Rattle.model.specs.Error.{Target}
+use Rattle.model.specs.Setting.{target_in}
 use Rattle.invariants.specs.Plate.{cell_toggle, Weighs}
 use Rattle.invariants.proofs.Plate.{ready_judged, attempt_declined, attempt_accepted}
 use Rattle.search_trial.proofs.toggle.Goals as goal
 use Rattle.search_trial.proofs.toggle.Goals.{After-weigh_toggle-delta, Start}
 
 pub weigh_toggle-delta-requires : goal.weigh_toggle-delta-requires
-weigh_toggle-delta-requires c = let s = c in (ready_judged s.requires.0, s.requires.1)
+weigh_toggle-delta-requires c = (ready_judged c.requires.0, c.requires.1)
 
 -- the change as its local holds it
 module _ (w : After-weigh_toggle-delta) where
@@ -20,10 +21,10 @@ module _ (w : After-weigh_toggle-delta) where
   s = search
 
   abbrev t : Target
-  t = target_for s.args.measures s.args.psf.now s.args.gray.now
+  t = target_in s.args.setting
 
   abbrev v : Move
-  v = cell_toggle s.args.measures s.args.dots.now s.args.at
+  v = cell_toggle s.args.setting.measures s.args.dots.now s.args.at
 
   abbrev delta : ℤ
   delta = to_z w64 (of_z w64 w.weigh_toggle-delta.result)
@@ -41,11 +42,9 @@ make_toggle-toggled-requires c = let w = (goal.at.make_toggle-toggled-requires c
 
 pub returns-then-lowers : goal.returns-then-lowers
 returns-then-lowers c =
-    let made = c in
-    let lower = c in
     let w = (goal.at.returns-then-lowers c).After-weigh_toggle-delta in
-    attempt_accepted (weighs w) (s w).args.stats (sym lower.lowers.ensures ∙ lower.if-lowers.true)
-    made.make_toggle-toggled.ensures
+    attempt_accepted (weighs w) (s w).args.stats (sym c.lowers.ensures ∙ c.if-lowers.true)
+    c.make_toggle-toggled.ensures
 
 pub returns : goal.returns
 returns c =

@@ -10,7 +10,7 @@ use mir.Val.{to_z, of_z}
 use Rattle.algebra.proofs.Machine.{read_back}
 use Rattle.model.specs.Basic.{square_at}
 use Rattle.model.specs.Change.{sign, swap_sum}
-use Rattle.invariants.specs.Plate.{Judged, OnPlate, most_change}
+use Rattle.invariants.specs.Plate.{JudgedIn, OnPlate, most_change}
 use Rattle.invariants.specs.Window.{most_kernel}
 use Rattle.invariants.proofs.Plate.{kernel_square, judged_small, kernel_small, place_fits, on_dots, on_table, swap_weighs}
 use Rattle.search_trial.proofs.weigh_swap.Goals as goal
@@ -18,14 +18,13 @@ use Rattle.search_trial.proofs.weigh_swap.Goals.{After-peak, Start}
 
 -- what is known from the start
 module _ (s : Start) where
-  abbrev judged : Judged s.args.measures s.args.psf.now s.args.gray.now s.args.c.now
-      s.args.dots.now s.args.table.now
+  abbrev judged : JudgedIn s.args.setting s.args.c.now s.args.dots.now s.args.table.now
   judged = s.requires.judged
 
-  abbrev one : OnPlate s.args.measures s.args.at
+  abbrev one : OnPlate s.args.setting.measures s.args.at
   one = s.requires.on_plate.0
 
-  abbrev other : OnPlate s.args.measures s.args.to
+  abbrev other : OnPlate s.args.setting.measures s.args.to
   other = s.requires.on_plate.1
 
 pub index-m-requires : goal.index-m-requires
@@ -52,42 +51,33 @@ peak-requires c = let s : Start = search in kernel_square (judged s)
 
 -- c between the cells and the peak, as the locals hold them
 module _ (p : After-peak) where
-  abbrev start : Start
-  start = search
-
-  abbrev b : After-peak
-  b = p
-
   abbrev at : (dy dx : ℤ) → ℤ
-  at dy dx = square_at (pos 0) (2 * start.args.measures.radius) start.args.c.now dy dx
+  at dy dx = square_at (pos 0) (2 * p.args.setting.measures.radius) p.args.c.now dy dx
 
   peak-is : to_z w32 (of_z w32 p.peak.result) ≡ at (pos 0) (pos 0)
   peak-is = read_back w32 p.peak.result p.peak.type_inv ∙ p.peak.ensures
 
   abbrev apart : ℤ
   apart =
-      at (pos start.args.at.row -ℤ pos start.args.to.row)
-      (pos start.args.at.col -ℤ pos start.args.to.col)
+      at (pos p.args.at.row -ℤ pos p.args.to.row)
+      (pos p.args.at.col -ℤ pos p.args.to.col)
 
-  apart-is : to_z w32 (of_z w32 b.between-apart.result) ≡ apart
-  apart-is = read_back w32 b.between-apart.result b.between-apart.type_inv ∙ b.between-apart.ensures
+  apart-is : to_z w32 (of_z w32 p.between-apart.result) ≡ apart
+  apart-is = read_back w32 p.between-apart.result p.between-apart.type_inv ∙ p.between-apart.ensures
 
 pub swap_change-requires : goal.swap_change-requires
 swap_change-requires c =
     let s : Start = search in
-    let p = c in
-    let i = c in
-    let o = c in
     let dots = s.args.dots.now in
     let table = s.args.table.now in record {
       m_in_bounds = (
-        subst (λ k. k < length dots) (sym i.index-m.ensures) (on_dots (judged s) (one s)),
-        subst (λ k. k < length table) (sym i.index-m.ensures) (on_table (judged s) (one s)),
-        subst (λ k. k < length table) (sym o.index-n.ensures) (on_table (judged s) (other s)),
+        subst (λ k. k < length dots) (sym c.index-m.ensures) (on_dots (judged s) (one s)),
+        subst (λ k. k < length table) (sym c.index-m.ensures) (on_table (judged s) (one s)),
+        subst (λ k. k < length table) (sym c.index-n.ensures) (on_table (judged s) (other s)),
       );
       peak_bound = (
-        subst (λ (z : ℤ). nat_abs z ≤ most_kernel) (sym (peak-is p)) (kernel_small (judged s) _ _),
-        subst (λ (z : ℤ). nat_abs z ≤ most_kernel) (sym (apart-is p)) (kernel_small (judged s) _ _),
+        subst (λ (z : ℤ). nat_abs z ≤ most_kernel) (sym (peak-is c)) (kernel_small (judged s) _ _),
+        subst (λ (z : ℤ). nat_abs z ≤ most_kernel) (sym (apart-is c)) (kernel_small (judged s) _ _),
         judged_small (judged s),
       );
     }
@@ -96,8 +86,6 @@ pub returns : goal.returns
 returns c =
     let s : Start = search in
     let p = (goal.at.returns c).After-peak in
-    let i = c in
-    let o = c in
     let dots = s.args.dots.now in
     let table = s.args.table.now in
     let back = read_back w64 c.swap_change.result c.swap_change.type_inv in
@@ -105,10 +93,10 @@ returns c =
       delta_is =
           back
           ∙ c.swap_change.ensures.value
-          ∙ ap₂ (λ P z. swap_sum 255 P z (sign dots i.index-m.result) (get_or table i.index-m.result (pos 0))
-          (get_or table o.index-n.result (pos 0))) (peak-is p) (apart-is p)
+          ∙ ap₂ (λ P z. swap_sum 255 P z (sign dots c.index-m.result) (get_or table c.index-m.result (pos 0))
+          (get_or table c.index-n.result (pos 0))) (peak-is p) (apart-is p)
           ∙ ap₂ (λ (k l : ℕ). swap_sum 255 (at p (pos 0) (pos 0)) (apart p) (sign dots k) (get_or table k (pos 0)) (get_or table l (pos 0)))
-          i.index-m.ensures o.index-n.ensures
+          c.index-m.ensures c.index-n.ensures
           ∙ swap_weighs (judged s) (one s) (other s) s.requires.on_plate.2;
       small = subst (λ (z : ℤ). nat_abs z ≤ most_change) (sym back) c.swap_change.ensures.result_bound;
     }

@@ -1,0 +1,2 @@
+-- What this crate's contracts speak of.
+pub mod Offers
