@@ -10,10 +10,10 @@ use native.Mathlib.Omega.{arith}
 use borrow.Author.Tests.{eq-eqb, ne_eqb}
 use lib.IntN.{ℤ}
 use lib.ListN.{length}
-use Rattle.model.specs.declared.FiledEnd.{FiledEnd}
-use Rattle.model.specs.declared.Head.{Head}
+use Rattle.invariants.specs.Reading.{FiledEnd}
+use Rattle.model.specs.Format.{Head}
 use Rattle.model.specs.declared.Measures.{Measures}
-use Rattle.model.specs.declared.Verdict.{Verdict}
+use Rattle.model.specs.FiledCalls.{Verdict}
 use Rattle.model.specs.Calls.{refused, Outcome}
 use Rattle.model.specs.Sheet.{InRange}
 use Rattle.model.specs.Format.{head_from, head_by, body, Parsed, parse}

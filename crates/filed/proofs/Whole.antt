@@ -16,10 +16,10 @@ use lib.Dec.{leb}
 use lib.IntN.{ℤ}
 use lib.ListN.{length, take}
 use lib.Seq.{sets, take_at}
-use Rattle.model.specs.declared.FiledEnd.{FiledEnd}
-use Rattle.model.specs.declared.Head.{Head}
+use Rattle.invariants.specs.Reading.{FiledEnd}
+use Rattle.model.specs.Format.{Head}
 use Rattle.model.specs.declared.Measures.{Measures}
-use Rattle.model.specs.declared.Place.{Place}
+use Rattle.model.specs.Format.{Place}
 use Rattle.model.specs.Basic.{AtMost}
 use Rattle.model.specs.Psf.{total}
 use Rattle.model.specs.Refusal.{PlateFits}

@@ -4,22 +4,27 @@
 --   figure_by             the figure, by the bits of the two numbers
 --   unstarted, started    rest, by the number with which a start is refused
 --   startable_by          what a start takes, its dots being given, holds the locks
---   ledger_by             the ledger, by the number that 21 draws
+--   ok_none, ledger_by    the ledger, by the number that 21 draws
 use mathlib.Core.Bool.{Bool, true, false, not}
 use mathlib.Core.List.{List, [], ◌∷◌}
 use mathlib.Core.Path.{◌≡◌, refl, sym, ◌∙◌, ap, subst}
 use Prim.Native.Nat.{ℕ, zero, suc, ◌+◌, ◌-◌, ◌≤◌, ◌<◌}
 use native.Mathlib.Omega.{arith}
-use borrow.Author.Tests.{eqb-true, eqb-false}
+use borrow.Author.Tests.{eqb-true, eqb-false, ne_eqb}
 use lib.Dec.{eqb, lit≤}
 use lib.IntN.{ℤ, pos, negsuc, ◌+ℤ◌, ◌-ℤ◌}
 use lib.ListN.{length}
 use mir.Syntax.{w64}
 use mir.Val.{to_z, of_z}
+use Rattle.std.specs.Prelude.{Result, Ok, Err}
+use Rattle.std.specs.Result.{is_ok}
 use Rattle.algebra.proofs.Solver.{reify}
 use Rattle.algebra.proofs.Order.{read≡, show≡}
 use Rattle.model.specs.declared.Measures.{Measures}
-use Rattle.model.specs.declared.Resting.TheVariants.{Rests, Lowers, Unstarted}
+use Rattle.model.specs.declared.Reason.{Reason}
+use Rattle.model.specs.Reason.{number_of, drawn}
+use Rattle.judge_parts.proofs.Drawn.{some_number}
+use Rattle.model.specs.FiledCalls.{Rests, Lowers, Unstarted}
 use Rattle.model.specs.declared.Stats.{Stats}
 use Rattle.model.specs.Basic.{pick}
 use Rattle.model.specs.Error.{Target, target_for, cells, filtered_errors, squared_error}
@@ -96,6 +101,10 @@ startable_by m psf gray dots n f given e z =
     }
 
 -- ---- the ledger
+pub ok_none : (r : Result (Unit {0}) Reason) → is_ok r ≡ eqb (drawn r) 0
+ok_none (Ok u) = refl
+ok_none (Err e) = sym (ne_eqb (number_of e) 0 (some_number e))
+
 pub ledger_by : (t : Target) (dots : List ℕ) (s : Stats) {x n total : ℕ} {squared : ℤ} {s' : Stats}
     → x ≡ first_of (wrong_stats n t.step squared total s' ∷ [])
     → n ≡ cells t → squared ≡ squared_error t dots → total ≡ dot_total dots → s' ≡ s

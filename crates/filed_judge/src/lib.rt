@@ -3,19 +3,21 @@
 
 ghost use Rattle.std.specs.Prelude.{◌≡◌, ◌≤◌, pos, ◌+ℤ◌, ◌-ℤ◌, length};
 ghost use Rattle.model.specs.Basic.{AtMost};
-ghost use Rattle.model.specs.Error.{target_for, filtered_errors, most_cells};
+ghost use Rattle.model.specs.Error.{filtered_errors, most_cells};
 ghost use Rattle.model.specs.Ledger.{count_of, dot_total};
 ghost use Rattle.model.specs.Refusal.{start_refusal, PlateFits};
+ghost use Rattle.model.specs.Setting.{target_in};
 ghost use Rattle.model.specs.Sheet.{sheet_with, cells_of};
 ghost use Rattle.model.specs.Filed.{most_figure, figures_in};
-ghost use Rattle.model.specs.FiledCalls.{filed_stats, ledger_fits, rests, resting_of, verdict_of};
+ghost use Rattle.model.specs.FiledCalls.{filed_stats, ledger_fits, rests, resting_of, resting_in, verdict_of, verdict_in};
 ghost use Rattle.filed_rest.specs.Measured.{Measured};
 
 use filed_rest::at_rest;
 use filter_sums::filter_and_square;
 use judge_input::judge_start;
 use judge_ledger::judge_ledger;
-use model::{Figures, FiledFigures, Measures, Resting, Stats, Verdict};
+use judge_parts::known_bytes;
+use model::{Figures, FiledFigures, Reason, Setting, Stats, Verdict};
 use slices::sum;
 
 // the dots at the start: the dots on the plate - on + off; where that is below 0, the greatest number, which 21 refuses
@@ -25,7 +27,7 @@ fn start_dots(count: usize, on: u64, off: u64) -> u64
 {
     let most = count as u64 + off;
     if most < on {
-        return 18446744073709551615;
+        return u64::MAX;
     }
     most - on
 }
@@ -48,70 +50,54 @@ fn filed_stats(dots: &[u8], count: usize, f: FiledFigures) -> Stats
 }
 
 // whether 21 is not drawn of the ledger as filed, the squared error of the dots being known
-fn ledger_fits(
-    m: Measures,
-    psf: &[u8],
-    gray: &[u8],
-    dots: &[u8],
-    table: &[i32],
-    squared: i64,
-    f: FiledFigures,
-) -> bool
-    requires { Measured m psf.now gray.now dots.now table.now squared × AtMost most_figure (figures_in f) }
-    ensures { result ≡ ledger_fits (target_for m psf.now gray.now) dots.now
-        (filed_stats dots.now f) }
+fn ledger_fits(setting: Setting, dots: &[u8], table: &[i32], squared: i64, f: FiledFigures) -> bool
+    requires { Measured setting.measures setting.psf.now setting.gray.now dots.now table.now squared
+        × AtMost most_figure (figures_in f) }
+    ensures { result ≡ ledger_fits (target_in setting.entry) dots.now (filed_stats dots.now f) }
 {
+    known_bytes(setting.gray);
     let count = sum(dots);
     let stats = filed_stats(dots, count, f);
-    judge_ledger(table.len(), squared, count, stats) == 0
+    judge_ledger(table.len(), squared, count, stats).is_ok()
 }
 
 // at rest or not, unless a start would refuse the sheet, whose dots are given
-fn resting(
-    m: Measures,
-    psf: &[u8],
-    gray: &[u8],
-    dots: &[u8],
-    table: &[i32],
-    squared: i64,
-) -> Resting
-    requires { Measured m psf.now gray.now dots.now table.now squared × (m.start ≡ 2) }
-    ensures { result ≡ resting_of (start_refusal m psf.now gray.now dots.now
-        (cells_of m)) (rests (target_for m psf.now gray.now) m.reach dots.now) }
+fn resting(setting: Setting, dots: &[u8], table: &[i32], squared: i64) -> Result<bool, Reason>
+    requires { Measured setting.measures setting.psf.now setting.gray.now dots.now table.now squared
+        × (setting.measures.start ≡ 2) }
+    ensures { resting_in result ≡ resting_of (start_refusal setting.entry.measures setting.entry.psf.now
+        setting.entry.gray.now dots.now (cells_of setting.entry.measures))
+        (rests (target_in setting.entry) setting.entry.measures.reach dots.now) }
 {
-    let number = judge_start(m, psf, gray, dots, table.len());
-    if number != 0 {
-        return Resting::Unstarted(number);
-    }
-    if at_rest(m, psf, gray, dots, table, squared) {
-        return Resting::Rests;
-    }
-    Resting::Lowers
+    judge_start(setting, dots, table.len())?;
+    Ok(at_rest(setting, dots, table, squared))
 }
 
 // All the verdicts; the table is filled.
-pub fn judge_plate(
-    m: Measures,
-    psf: &[u8],
-    gray: &[u8],
-    dots: &[u8],
-    table: &mut [i32],
-    f: FiledFigures,
-) -> Verdict
-    requires plate_fits { PlateFits m psf.now gray.now dots.now (length table.old) }
-    requires at_most { AtMost most_figure (figures_in f) × (m.start ≡ 2) }
-    ensures value { result ≡ verdict_of (sheet_with m psf.now gray.now dots.now) f }
-    ensures table_after { table.new
-        ≡ filtered_errors (target_for m psf.now gray.now) dots.now }
+pub fn judge_plate(setting: Setting, dots: &[u8], table: &mut [i32], f: FiledFigures) -> Verdict
+    requires plate_fits { PlateFits setting.measures setting.psf.now setting.gray.now dots.now (length table.old) }
+    requires at_most { AtMost most_figure (figures_in f) × (setting.measures.start ≡ 2) }
+    ensures value { verdict_in result ≡ verdict_of (sheet_with setting.entry.measures setting.entry.psf.now
+        setting.entry.gray.now dots.now) f }
+    ensures table_after { table.new ≡ filtered_errors (target_in setting.entry) dots.now }
 {
-    let squared = filter_and_square(m.width, m.height, m.radius, psf, gray, dots, table);
+    let m = setting.measures;
+    let squared = filter_and_square(
+        m.width,
+        m.height,
+        m.radius,
+        setting.psf,
+        setting.gray,
+        dots,
+        table,
+    );
     let filed = f.after as i64;
     Verdict {
         measures: m,
-        filed: filed,
-        squared: squared,
+        filed,
+        squared,
         figure: filed == squared,
-        ledger: ledger_fits(m, psf, gray, dots, table, squared, f),
-        rest: resting(m, psf, gray, dots, table, squared),
+        ledger: ledger_fits(setting, dots, table, squared, f),
+        rest: resting(setting, dots, table, squared),
     }
 }

@@ -2,119 +2,82 @@
 // judged whole before anything is stored.
 #![tactic(auto)]
 
-ghost use Rattle.std.specs.Prelude.{[], ◌≡◌};
+ghost use Rattle.std.specs.Prelude.{◌≡◌};
 ghost use Rattle.model.specs.Psf.{total};
-ghost use Rattle.model.specs.Sheet.{InRange};
-ghost use Rattle.model.specs.Format.{body, parse, sheet_of};
-ghost use Rattle.invariants.specs.Reading.{field_next};
+ghost use Rattle.model.specs.Format.{body, field_at, parse, sheet_of};
 ghost use Rattle.model.specs.Filed.{most_figure, figure_parts, figures_of, filed_room};
-ghost use Rattle.invariants.specs.Reading.{filed_end};
+ghost use Rattle.invariants.specs.Reading.{field_in, ReadsAs, filed_end};
 
-use model::{Field, FiledEnd, FiledFigures, Measures, Place};
-use sheet_fields::{next_field, read_fixed, store_block};
-use sheet_read::{cells, entries, has_room, judge_blocks, judge_end, side};
+use model::{After, FiledFigures, Refused};
+use sheet_fields::{read_field, read_fixed, store_block};
+use sheet_read::{Layout, judge_blocks, judge_end};
 use slices::sum;
 
 // one of the six figures, and the byte that ends it
-fn next_figure(s: &[u8], done: Field, end: u8) -> Field
-    ensures { result ≡ field_next 0 most_figure end s.now done }
+fn read_figure(s: &[u8], at: usize, end: u8) -> Result<After<u64>, Refused>
+    ensures { field_in result ≡ field_at 0 most_figure end s.now at }
 {
-    next_field(s, done, 0, 9223372036854775807, end)
+    let figure = read_field(s, at, 0, 9223372036854775807, end)?;
+    Ok(After {
+        value: figure.value as u64,
+        at: figure.at,
+    })
 }
 
 // the two lines
-fn read_figures(s: &[u8], at: usize) -> FiledEnd
+#[tactic(auto, unfolding(model::specs::Filed::figure_parts))]
+fn read_figures(s: &[u8], at: usize) -> Result<After<FiledFigures>, Refused>
     ensures { let p = parse figure_parts s.now at in
-        result ≡ record { refusal = p.refusal; at = p.at; figures = figures_of p.values } }
+        ReadsAs result p.refusal p.at (λ f. figures_of p.values ≡ f) }
 {
-    let line = read_fixed(s, at, b"before after on off swaps scans\n");
-    let names = Field {
-        refusal: line.refusal,
-        at: line.at,
-        value: 0,
+    let names = read_fixed(s, at, b"before after on off swaps scans\n")?;
+    let before = read_figure(s, names, b' ')?;
+    let after = read_figure(s, before.at, b' ')?;
+    let on = read_figure(s, after.at, b' ')?;
+    let off = read_figure(s, on.at, b' ')?;
+    let swaps = read_figure(s, off.at, b' ')?;
+    let scans = read_figure(s, swaps.at, b'\n')?;
+    let value = FiledFigures {
+        before: before.value,
+        after: after.value,
+        on: on.value,
+        off: off.value,
+        swaps: swaps.value,
+        scans: scans.value,
     };
-    let before = next_figure(s, names, 32);
-    let after = next_figure(s, before, 32);
-    let on = next_figure(s, after, 32);
-    let off = next_figure(s, on, 32);
-    let swaps = next_figure(s, off, 32);
-    let scans = next_figure(s, swaps, 10);
-    FiledEnd {
-        refusal: scans.refusal,
+    Ok(After {
+        value,
         at: scans.at,
-        figures: FiledFigures {
-            before: before.value as u64,
-            after: after.value as u64,
-            on: on.value as u64,
-            off: off.value as u64,
-            swaps: swaps.value as u64,
-            scans: scans.value as u64,
-        },
-    }
-}
-
-// no figures: the blocks were refused
-fn unread(blocks: Place) -> FiledEnd
-    ensures { result ≡ record { refusal = blocks.refusal; at = blocks.at; figures = figures_of [] } }
-{
-    FiledEnd {
-        refusal: blocks.refusal,
-        at: blocks.at,
-        figures: FiledFigures {
-            before: 0,
-            after: 0,
-            on: 0,
-            off: 0,
-            swaps: 0,
-            scans: 0,
-        },
-    }
+    })
 }
 
 // Judges all that follows line 2, and reads the figures.
-pub fn judge_filed(s: &[u8], at: usize, m: Measures) -> FiledEnd
-    requires { InRange m }
-    ensures { result ≡ filed_end m s.now at }
+#[tactic(auto, using(crate::proofs::Figures::blocks_stop, crate::proofs::Figures::figures_stop, crate::proofs::Figures::end_stop))]
+pub fn judge_filed(s: &[u8], at: usize, m: Layout) -> Result<After<FiledFigures>, Refused>
+    ensures { let e = filed_end m.measures s.now at in
+        ReadsAs result e.refusal e.at (λ f. e.figures ≡ f) }
 {
-    let blocks = judge_blocks(s, at, m);
-    if blocks.refusal != 0 {
-        return unread(blocks);
-    }
-    let lines = read_figures(s, blocks.at);
-    let figures = lines.figures;
-    let end = judge_end(
-        s,
-        Place {
-            refusal: lines.refusal,
-            at: lines.at,
-        },
-    );
-    FiledEnd {
-        refusal: end.refusal,
-        at: end.at,
-        figures: figures,
-    }
+    let lines = judge_blocks(s, at, m)?;
+    let figures = read_figures(s, lines)?;
+    judge_end(s, figures.at)?;
+    Ok(figures)
 }
 
 // Whether buffers of these lengths are long enough.
-pub fn has_filed_room(m: Measures, psf: usize, gray: usize, dots: usize, table: usize) -> bool
-    requires { InRange m }
-    ensures { result ≡ filed_room psf gray dots table m }
+pub fn has_filed_room(m: Layout, psf: usize, gray: usize, dots: usize, table: usize) -> bool
+    ensures { result ≡ filed_room psf gray dots table m.measures }
 {
-    if !has_room(m, psf, gray, dots) {
-        return false;
-    }
-    cells(m) <= table
+    m.has_room(psf, gray, dots) && m.cells() <= table
 }
 
 // The sum of the psf, whose block was judged good; nothing lent is touched.
-pub fn psf_sum(s: &[u8], at: usize, m: Measures) -> usize
-    requires in_range { InRange m }
-    requires at_value { (parse (body m) s.now at).refusal ≡ 0 }
-    ensures { result ≡ total (sheet_of m (parse (body m) s.now at).values).psf }
+pub fn psf_sum(s: &[u8], at: usize, m: Layout) -> usize
+    requires { (parse (body m.measures) s.now at).refusal ≡ 0 }
+    ensures { result ≡ total (sheet_of m.measures (parse (body m.measures) s.now at).values).psf }
 {
+    // the most entries that a psf has: the library has no heap
     let mut psf = [0u8; 49];
-    let n = entries(m);
-    store_block(s, at, b"psf", side(m), n, 255, &mut psf);
+    let n = m.entries();
+    store_block(s, at, b"psf", m.side(), n, 255, &mut psf);
     sum(&psf[..n])
 }

@@ -1,3 +1,2 @@
 -- What the proofs of the fields share.
 pub mod Parts
-pub mod Fields

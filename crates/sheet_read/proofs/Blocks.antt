@@ -1,58 +1,26 @@
 -- What follows line 2.
---   psf_short, gray_short, dots_room, all_room  whether there is room, by the tests
---   psf_block_lem, gray_block_lem, dots_block_lem, no_dots  the blocks by their names
---   blocks_place                                they are judged one after the other
+--   psf_block_lem, gray_block_lem       the blocks by their names
 --   ended_good, first_good, blocks_good         where all is good, so is what stands before its end, or first in it
 --   judged                                      what blocks that were judged good hold
 use mathlib.Core.Bool.{Bool, true, false}
-use mathlib.Core.List.{List, [], ◌++◌}
+use mathlib.Core.List.{List, ◌++◌}
 use mathlib.Core.Path.{◌≡◌, refl, sym, ◌∙◌, ap}
-use Prim.Native.Nat.{ℕ, ◌≤◌, ◌<◌}
-use native.Mathlib.Omega.{arith}
-use borrow.Author.Tests.{lt-leb, le-leb, leb-true, eqb-true, eqb-false, eq-eqb, ne_eqb}
-use lib.Dec.{leb, eqb}
+use Prim.Native.Nat.{ℕ}
+use borrow.Author.Tests.{eqb-true, eqb-false}
+use lib.Dec.{eqb}
 use lib.ListN.{length, take, drop}
 use lib.Seq.{take_at, drop_at}
 use Rattle.model.specs.declared.Measures.{Measures}
-use Rattle.model.specs.declared.Place.{Place}
+use Rattle.model.specs.Format.{Place}
 use Rattle.model.specs.Text.{bytes}
-use Rattle.model.specs.Sheet.{side_of, entries_of, cells_of, dots_in, psf_name, gray_name, dots_name, room_for}
-use Rattle.model.specs.Format.{Part, block, psf_block, gray_block, dots_block, body, place, Parsed, parse, place_of}
+use Rattle.model.specs.Sheet.{side_of, entries_of, cells_of, psf_name, gray_name}
+use Rattle.model.specs.Format.{Part, block, psf_block, gray_block, dots_block, body, Parsed, parse, place_of}
 use Rattle.model.specs.Format.{ended, sheet_of, body_end}
-use Rattle.invariants.specs.Reading.{parse_next}
 use Rattle.model.proofs.Basic.{zero_cases}
-use Rattle.model.proofs.Text.{and_true}
 use Rattle.model.proofs.Format.{parse_append, parse_refused, values_length, numbers_grid}
-use Rattle.sheet_fields.proofs.Parts.{next_on, next_append}
 
--- ---- how many numbers
--- whether there is room, by the tests
-module _ (m : Measures) (psf gray dots n k : ℕ) (en : n ≡ cells_of m) (ek : k ≡ entries_of m) where
-  pub psf_short : psf < k → false ≡ room_for m psf gray dots
-  psf_short h = rw (← ek, lt-leb k psf h)
-
-  pub gray_short : k ≤ psf → gray < n → false ≡ room_for m psf gray dots
-  gray_short h l = rw (← ek, ← en, le-leb k psf h, lt-leb n gray l)
-
-  pub dots_room : k ≤ psf → n ≤ gray → m.start ≡ 2 → leb n dots ≡ room_for m psf gray dots
-  dots_room h l t = rw (eq-eqb m.start 2 t, ← ek, ← en, le-leb k psf h, le-leb n gray l)
-
-  pub all_room : k ≤ psf → n ≤ gray → (m.start ≡ 2 → ⊥) → true ≡ room_for m psf gray dots
-  all_room h l t =
-      rw (ne_eqb m.start 2 t, ← ek, ← en, le-leb k psf h, le-leb n gray l, le-leb 0 dots (omega arith))
-
+-- ---- the blocks by their names
 module _ (m : Measures) where
-  pub dots_all : m.start ≡ 2 → dots_in m ≡ cells_of m
-  dots_all h = rw (eq-eqb m.start 2 h)
-
-  pub room : (psf gray dots : ℕ) → room_for m psf gray dots ≡ true
-      → (entries_of m ≤ psf) × (cells_of m ≤ gray) × (dots_in m ≤ dots)
-  room psf gray dots e =
-      let a = and_true (leb (entries_of m) psf) _ e in
-      let b = and_true (leb (cells_of m) gray) (leb (dots_in m) dots) a.1 in
-      (leb-true (entries_of m) psf a.0, leb-true (cells_of m) gray b.0, leb-true (dots_in m) dots b.1)
-
-  -- ---- the blocks by their names
   pub psf_block_lem : {w n : ℕ} → w ≡ side_of m → n ≡ entries_of m → block (bytes "psf\n") w n 255 ≡ psf_block m
   unfolding psf_name
   psf_block_lem ew en = rw (ew, en)
@@ -60,34 +28,6 @@ module _ (m : Measures) where
   pub gray_block_lem : {n : ℕ} → n ≡ cells_of m → block (bytes "gray\n") m.width n 255 ≡ gray_block m
   unfolding gray_name
   gray_block_lem en = rw en
-
-  pub dots_block_lem : {n : ℕ} → m.start ≡ 2 → n ≡ cells_of m → block (bytes "dots\n") m.width n 1 ≡ dots_block m
-  unfolding dots_name
-  dots_block_lem h en = rw (en, eq-eqb m.start 2 h)
-
-  pub no_dots : (m.start ≡ 2 → ⊥) → [] ≡ dots_block m
-  no_dots h = rw (ne_eqb m.start 2 h)
-
--- ---- judged one after the other
-pub next_none : (s : List ℕ) (p : Place) → p ≡ parse_next [] s p
-unfolding parse_next
-next_none s p = go (eqb p.refusal 0) refl
-  where
-    go : (b : Bool) → eqb p.refusal 0 ≡ b → p ≡ parse_next [] s p
-    go true t = rw t (ap (λ (n : ℕ). place n p.at) (eqb-true p.refusal 0 t))
-    go false t = rw t
-
-pub blocks_place : (m : Measures) (s : List ℕ) (at : ℕ) (p g d : Place) → p ≡ parse_next (psf_block m) s (place 0 at)
-    → g ≡ parse_next (gray_block m) s p → d ≡ parse_next (dots_block m) s g → d ≡ place_of (parse (body m) s at)
-unfolding body
-blocks_place m s at p g d ep eg ed =
-    let start = place 0 at in
-    let after = parse_next (psf_block m) s start in
-    let all : place_of (parse (body m) s at) ≡ parse_next (dots_block m) s (parse_next (gray_block m) s after) =
-    sym (next_on (body m) s start refl)
-    ∙ next_append (psf_block m) (gray_block m ++ dots_block m) s start
-    ∙ next_append (gray_block m) (dots_block m) s after in
-    ed ∙ ap (parse_next (dots_block m) s) (eg ∙ ap (parse_next (gray_block m) s) ep) ∙ sym all
 
 -- ---- what was judged good
 pub ended_good : (s : List ℕ) (p : Place) → (ended s p).refusal ≡ 0 → p.refusal ≡ 0

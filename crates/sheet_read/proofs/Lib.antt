@@ -1,3 +1,2 @@
 -- What the proofs of the blocks share.
-pub mod Head
 pub mod Blocks

@@ -5,40 +5,85 @@ ghost use Rattle.std.specs.Prelude.{true, ◌≡◌, ◌≤◌, length};
 ghost use Rattle.std.proofs.lemmas.List.Edits.{sets};
 ghost use Rattle.model.specs.Error.{most_cells};
 ghost use Rattle.model.specs.Sheet.{side_of, entries_of, cells_of, dots_in, names, InRange, room_for};
-ghost use Rattle.model.specs.Format.{head_from, dots_block, body, fixed_at, parse, place_of, ended};
-ghost use Rattle.invariants.specs.Reading.{parse_next};
+ghost use Rattle.model.specs.Format.{head_from, dots_block, body, place, fixed_at, parse, place_of, ended};
 ghost use Rattle.model.specs.Format.{head_by, sheet_of, body_end};
 ghost use Rattle.model.specs.SheetCalls.{sheet_buffers, stored};
+ghost use Rattle.invariants.specs.Reading.{place_in, ReadsAs};
 
-use model::{Field, Head, Measures, Place};
-use sheet_fields::{judge_block, next_field, next_name, store_block};
+use model::{After, Measures, Reason, Refused};
+use sheet_fields::{judge_block, read_field, read_name, store_block};
+
+// The measures of a sheet, each in its field.
+#[derive(Clone, Copy)]
+pub struct Layout {
+    pub measures: Measures,
+    pub ghost in_range: { InRange measures },
+}
+
+impl Layout {
+    // How long a row of the psf is.
+    pub fn side(self) -> usize
+        ensures { (result ≡ side_of self.measures) × (1 ≤ result) × (result ≤ 7) }
+    {
+        2 * self.measures.radius + 1
+    }
+
+    // How many entries the psf has.
+    pub fn entries(self) -> usize
+        ensures { (result ≡ entries_of self.measures) × (result ≤ 49) }
+    {
+        self.side() * self.side()
+    }
+
+    // How many cells there are.
+    pub fn cells(self) -> usize
+        ensures { (result ≡ cells_of self.measures) × (result ≤ most_cells) }
+    {
+        self.measures.height * self.measures.width
+    }
+
+    // How many dots stand in the sheet: those of all cells with start 2, else none.
+    pub fn dots(self) -> usize
+        ensures { (result ≡ dots_in self.measures) × (result ≤ most_cells) }
+    {
+        if self.measures.start == 2 {
+            self.cells()
+        } else {
+            0
+        }
+    }
+
+    // Whether buffers of these lengths are long enough.
+    pub fn has_room(self, psf: usize, gray: usize, dots: usize) -> bool
+        ensures { result ≡ room_for self.measures psf gray dots }
+    {
+        self.entries() <= psf && self.cells() <= gray && self.dots() <= dots
+    }
+}
 
 // line 1
-fn read_names(s: &[u8]) -> Place
-    ensures { result ≡ fixed_at names s.now 0 }
+fn read_names(s: &[u8]) -> Result<usize, Refused>
+    ensures { place_in result ≡ fixed_at names s.now 0 }
 {
-    let width = next_name(s, Place { refusal: 0, at: 0 }, b"width", 32);
-    let height = next_name(s, width, b"height", 32);
-    let radius = next_name(s, height, b"radius", 32);
-    let reach = next_name(s, radius, b"reach", 32);
-    next_name(s, reach, b"start", 10)
+    let height = read_name(s, 0, b"width", b' ')?;
+    let radius = read_name(s, height, b"height", b' ')?;
+    let reach = read_name(s, radius, b"radius", b' ')?;
+    let start = read_name(s, reach, b"reach", b' ')?;
+    read_name(s, start, b"start", b'\n')
 }
 
 // Lines 1 and 2, the kind of start from the least allowed on.
-pub fn read_head(s: &[u8], least: usize) -> Head
-    ensures { result ≡ head_by (head_from least) s.now }
+#[tactic(auto, unfolding(model::specs::Format::head_by, model::specs::Format::head_from))]
+pub fn read_head(s: &[u8], least: usize) -> Result<After<Layout>, Refused>
+    ensures { let h = head_by (head_from least) s.now in
+        ReadsAs result h.refusal h.at (λ l. h.measures ≡ l.measures) }
 {
-    let line = read_names(s);
-    let names = Field {
-        refusal: line.refusal,
-        at: line.at,
-        value: 0,
-    };
-    let width = next_field(s, names, 1, 256, 32);
-    let height = next_field(s, width, 1, 256, 32);
-    let radius = next_field(s, height, 0, 3, 32);
-    let reach = next_field(s, radius, 0, 6, 32);
-    let start = next_field(s, reach, least, 2, 10);
+    let line = read_names(s)?;
+    let width = read_field(s, line, 1, 256, b' ')?;
+    let height = read_field(s, width.at, 1, 256, b' ')?;
+    let radius = read_field(s, height.at, 0, 3, b' ')?;
+    let reach = read_field(s, radius.at, 0, 6, b' ')?;
+    let start = read_field(s, reach.at, least, 2, b'\n')?;
     let measures = Measures {
         width: width.value,
         height: height.value,
@@ -46,137 +91,83 @@ pub fn read_head(s: &[u8], least: usize) -> Head
         reach: reach.value,
         start: start.value,
     };
-    Head {
-        refusal: start.refusal,
+    Ok(After {
+        value: Layout { measures },
         at: start.at,
-        measures: measures,
-    }
-}
-
-// how long a row of the psf is
-pub fn side(m: Measures) -> usize
-    requires { InRange m }
-    ensures { (result ≡ side_of m) × (1 ≤ result) × (result ≤ 7) }
-{
-    2 * m.radius + 1
-}
-
-// how many entries the psf has
-pub fn entries(m: Measures) -> usize
-    requires { InRange m }
-    ensures { (result ≡ entries_of m) × (result ≤ 49) }
-{
-    let side = side(m);
-    side * side
-}
-
-// how many cells there are
-pub fn cells(m: Measures) -> usize
-    requires { InRange m }
-    ensures { (result ≡ cells_of m) × (result ≤ most_cells) }
-{
-    m.height * m.width
-}
-
-// Whether buffers of these lengths are long enough.
-pub fn has_room(m: Measures, psf: usize, gray: usize, dots: usize) -> bool
-    requires { InRange m }
-    ensures { result ≡ room_for m psf gray dots }
-{
-    let cells = cells(m);
-    if psf < entries(m) {
-        return false;
-    }
-    if gray < cells {
-        return false;
-    }
-    if m.start == 2 {
-        return cells <= dots;
-    }
-    true
+    })
 }
 
 // the dots stand in the sheet with start 2 only
-fn judge_dots(s: &[u8], done: Place, m: Measures) -> Place
-    requires { InRange m }
-    ensures { result ≡ parse_next (dots_block m) s.now done }
+#[tactic(auto, unfolding(model::specs::Sheet::dots_name))]
+fn judge_dots(s: &[u8], at: usize, m: Layout) -> Result<usize, Refused>
+    ensures { place_in result ≡ place_of (parse (dots_block m.measures) s.now at) }
 {
-    if m.start != 2 {
-        return done;
+    if m.measures.start != 2 {
+        return Ok(at);
     }
-    judge_block(s, done, b"dots", m.width, cells(m), 1)
+    judge_block(s, at, b"dots", m.measures.width, m.cells(), 1)
 }
 
-// nothing follows; what was refused stays refused
-pub fn judge_end(s: &[u8], done: Place) -> Place
-    ensures { result ≡ ended s.now done }
+// Nothing follows.
+pub fn judge_end(s: &[u8], at: usize) -> Result<usize, Refused>
+    ensures { place_in result ≡ ended s.now (place 0 at) }
 {
-    if done.refusal != 0 {
-        return done;
+    if at < s.len() {
+        return Err(Refused {
+            reason: Reason::Byte,
+            at,
+        });
     }
-    if s.len() <= done.at {
-        return done;
-    }
-    Place {
-        refusal: 10,
-        at: done.at,
-    }
+    Ok(at)
 }
 
 // Judges the blocks that follow line 2.
-pub fn judge_blocks(s: &[u8], at: usize, m: Measures) -> Place
-    requires { InRange m }
-    ensures { result ≡ place_of (parse (body m) s.now at) }
+pub fn judge_blocks(s: &[u8], at: usize, m: Layout) -> Result<usize, Refused>
+    ensures { place_in result ≡ place_of (parse (body m.measures) s.now at) }
 {
-    let psf = judge_block(
-        s,
-        Place { refusal: 0, at: at },
-        b"psf",
-        side(m),
-        entries(m),
-        255,
-    );
-    let gray = judge_block(s, psf, b"gray", m.width, cells(m), 255);
-    judge_dots(s, gray, m)
+    let gray = judge_block(s, at, b"psf", m.side(), m.entries(), 255)?;
+    let dots = judge_block(s, gray, b"gray", m.measures.width, m.cells(), 255)?;
+    judge_dots(s, dots, m)
 }
 
 // Judges all that follows line 2 of a sheet.
-pub fn judge_body(s: &[u8], at: usize, m: Measures) -> Place
-    requires { InRange m }
-    ensures { result ≡ body_end m s.now at }
+#[tactic(auto, unfolding(model::specs::Format::body_end))]
+pub fn judge_body(s: &[u8], at: usize, m: Layout) -> Result<usize, Refused>
+    ensures { place_in result ≡ body_end m.measures s.now at }
 {
-    judge_end(s, judge_blocks(s, at, m))
+    let end = judge_blocks(s, at, m)?;
+    judge_end(s, end)
 }
 
 // stores the dots that were judged good, with start 2 only
-fn store_dots(s: &[u8], at: usize, m: Measures, dots: &mut [u8])
-    requires in_range { InRange m }
-    requires at_value { (parse (dots_block m) s.now at).refusal ≡ 0 }
-    requires m_in_bounds { dots_in m ≤ length dots.old }
-    ensures { dots.new ≡ sets dots.old 0 (parse (dots_block m) s.now at).values }
+#[tactic(auto, unfolding(model::specs::Sheet::dots_name))]
+fn store_dots(s: &[u8], at: usize, m: Layout, dots: &mut [u8])
+    requires at_value { (parse (dots_block m.measures) s.now at).refusal ≡ 0 }
+    requires m_in_bounds { dots_in m.measures ≤ length dots.old }
+    ensures { dots.new ≡ sets dots.old 0 (parse (dots_block m.measures) s.now at).values }
 {
-    if m.start == 2 {
-        store_block(s, at, b"dots", m.width, cells(m), 1, dots);
+    if m.measures.start == 2 {
+        store_block(s, at, b"dots", m.measures.width, m.cells(), 1, dots);
     }
 }
 
 // Stores the blocks that follow line 2, once they were judged good.
-pub fn store_body(
-    s: &[u8],
-    at: usize,
-    m: Measures,
-    psf: &mut [u8],
-    gray: &mut [u8],
-    dots: &mut [u8],
-)
-    requires in_range { InRange m }
-    requires at_value { (parse (body m) s.now at).refusal ≡ 0 }
-    requires dots_value { room_for m (length psf.old) (length gray.old) (length dots.old) ≡ true }
+pub fn store_body(s: &[u8], at: usize, m: Layout, psf: &mut [u8], gray: &mut [u8], dots: &mut [u8])
+    requires at_value { (parse (body m.measures) s.now at).refusal ≡ 0 }
+    requires dots_value { room_for m.measures (length psf.old) (length gray.old) (length dots.old) ≡ true }
     ensures { sheet_buffers psf.new gray.new dots.new
-        ≡ stored (sheet_of m (parse (body m) s.now at).values)
+        ≡ stored (sheet_of m.measures (parse (body m.measures) s.now at).values)
         (sheet_buffers psf.old gray.old dots.old) }
 {
-    let under_psf = store_block(s, at, b"psf", side(m), entries(m), 255, psf);
-    let under_gray = store_block(s, under_psf, b"gray", m.width, cells(m), 255, gray);
+    let under_psf = store_block(s, at, b"psf", m.side(), m.entries(), 255, psf);
+    let under_gray = store_block(
+        s,
+        under_psf,
+        b"gray",
+        m.measures.width,
+        m.cells(),
+        255,
+        gray,
+    );
     store_dots(s, under_gray, m, dots);
 }

@@ -1,33 +1,33 @@
 -- The parts of a sheet with start 2 as they are put, and how long they are.
---   field_length                   how long a number is with the byte that ends it
---   row_next, row_last             a row from a value on: its field and the row after it; its last value
---   grid_next, length_next         a grid from a value on: its field and the values after it; how long they are
+--   row_next                       a row from a value on: its field and the row after it
+--   grid_next                      a grid from a value on: its field and the values after it
+--   grid_sum, grid_most            how long a grid is: a sum, at most 4 for each byte
 --   head_length_lem, block_length      how long lines 1 and 2 are, and a name with its rows
 --   sheet_parts, sheet_length_lem      the whole sheet, and how long it is
---   psf_most, cells_most           its blocks have at most as many values as the largest plate has cells
 use mathlib.Core.List.{List, [], ◌∷◌, ◌++◌, append_assoc}
-use mathlib.Core.Path.{◌≡◌, ◌∙◌, ap, sym}
+use mathlib.Core.Path.{◌≡◌, ◌∙◌, ap, refl, sym}
 use Prim.Native.Nat.{ℕ, ◌+◌, ◌*◌, ◌≤◌, ◌<◌}
-use native.Mathlib.Nat.{mul-le-mul}
+use native.Mathlib.Nat.{lt_trans}
 use native.Mathlib.Omega.{arith}
-use lib.ListN.{length, drop, get_or, length-append, drop_of_length-le}
+use lib.Dec.{lit<}
+use lib.ListN.{length, drop, get_or, length-append}
+use Rattle.std.proofs.lemmas.List.{drop_more, at_drop_more}
+use Rattle.std.proofs.lemmas.List.Elements.{All-from_get_or}
+use Rattle.std.proofs.lemmas.List.Sums.{sum_by-cons, sum_by-le}
+use Rattle.std.specs.List.{sum_by}
 use Rattle.model.specs.declared.Measures.{Measures}
-use Rattle.model.specs.Error.{most_cells}
-use Rattle.model.specs.Text.{space, line_end, digits}
+use Rattle.model.specs.Text.{space, digits}
 use Rattle.model.specs.Sheet.{side_of, names, psf_name, gray_name, dots_name, sheet_text, InRange, Shaped}
 use Rattle.model.specs.Sheet.{row, head_text, end_of, grid_text, grid_length}
 use Rattle.model.specs.SheetCalls.{with_given, written_sheet}
 use Rattle.model.proofs.Puts.{Opens}
 use Rattle.model.proofs.Rows.{grid_length_lem, rows_grid}
-use Rattle.slices.proofs.Bytes.{bytes_from}
+use Rattle.model.proofs.Text.{length_most}
 
 -- ---- from a value on
 -- a number and the byte that ends it
 abbrev pub field : (v end : ℕ) → List ℕ
 field v end = digits v ++ (end ∷ [])
-
-pub field_length : (v end : ℕ) → length (field v end) ≡ length (digits v) + 1
-field_length v end = length-append (digits v) (end ∷ [])
 
 field_then : (v end : ℕ) (rest : List ℕ) → digits v ++ (end ∷ rest) ≡ field v end ++ rest
 field_then v end rest = sym (append_assoc (digits v) (end ∷ []) rest)
@@ -37,25 +37,30 @@ module _ (vs : List ℕ) (i : ℕ) where
   row_next h =
       let more = row (get_or vs (i + 1) 0 ∷ drop (i + 1 + 1) vs) in
       record {
-        is = ap row (bytes_from vs i (omega arith)) ∙ rw (bytes_from vs (i + 1) h) (field_then (get_or vs i 0) space more);
+        is = at_drop_more row vs i 0 (omega arith) ∙ rw (drop_more vs (i + 1) 0 h) (field_then (get_or vs i 0) space more);
       }
 
-  pub row_last : i + 1 ≡ length vs → row (drop i vs) ≡ field (get_or vs i 0) line_end
-  row_last h =
-      let none = drop_of_length-le vs {i = i + 1} (omega arith) in
-      ap row (bytes_from vs i (omega arith)) ∙ rw none
+  pub grid_next : i < length vs → (w : ℕ)
+      → Opens (grid_text w i (drop i vs)) (field (get_or vs i 0) (end_of w i)) (grid_text w (i + 1) (drop (i + 1) vs))
+  grid_next h w = record {
+    is =
+        at_drop_more (grid_text w i) vs i 0 h
+        ∙ field_then (get_or vs i 0) (end_of w i) (grid_text w (i + 1) (drop (i + 1) vs));
+  }
 
-  module _ (h : i < length vs) where
-    pub length_next : grid_length (drop i vs) ≡ length (digits (get_or vs i 0)) + 1 + grid_length (drop (i + 1) vs)
-    length_next = ap grid_length (bytes_from vs i h)
+-- ---- how long a grid is
+abbrev pub length_of : ℕ → ℕ
+length_of v = length (digits v) + 1
 
-    pub grid_next : (w : ℕ)
-        → Opens (grid_text w i (drop i vs)) (field (get_or vs i 0) (end_of w i)) (grid_text w (i + 1) (drop (i + 1) vs))
-    grid_next w = record {
-      is =
-          ap (grid_text w i) (bytes_from vs i h)
-          ∙ field_then (get_or vs i 0) (end_of w i) (grid_text w (i + 1) (drop (i + 1) vs));
-    }
+pub grid_sum : (vs : List ℕ) → grid_length vs ≡ sum_by length_of vs
+grid_sum [] = refl
+grid_sum (v ∷ vs) = rw sum_by-cons (ap (λ n. length_of v + n) (grid_sum vs))
+
+pub grid_most : (vs : List ℕ) → ((i : ℕ) → get_or vs i 0 < 256) → sum_by length_of vs ≤ length vs * 4
+grid_most vs h =
+    sum_by-le length_of 4 vs
+    (All-from_get_or (λ v. length_of v ≤ 4) vs 0
+    (λ i _. let few = length_most 2 (get_or vs i 0) (lt_trans (h i) (lit< tt)) in omega arith))
 
 -- ---- lines 1 and 2, with start 2
 abbrev pub given_head : Measures → List ℕ
@@ -117,13 +122,3 @@ module _ (m : Measures) (psf gray dots : List ℕ) (r : InRange m) (s : Shaped (
         block_length gray_name m.width gray,
         block_length dots_name m.width dots,
       )
-
-  pub psf_most : length psf ≤ most_cells
-  psf_most =
-      let side : side_of m ≤ 7 = omega (arith, r.near) in
-      omega (arith, s.psf_length, mul-le-mul side side)
-
-  pub cells_most : (length gray ≤ most_cells) × (length dots ≤ most_cells)
-  cells_most =
-      let cells : m.height * m.width ≤ most_cells = mul-le-mul r.high.1 r.wide.1 in
-      (omega (arith, s.gray_length), omega (arith, s.dots_length))

@@ -7,16 +7,10 @@ ghost use Rattle.model.specs.Text.{digits, Puts};
 ghost use Rattle.model.specs.Sheet.{row, head_text, sheet_text, InRange, Shaped, grid_text, grid_length};
 ghost use Rattle.model.specs.SheetCalls.{with_given, written_sheet};
 
-use model::Measures;
+use model::{Measures, Setting};
 use sheet_fields::end_of;
 use slices::put_bytes;
 use text_decimal::{digit_count, put_number};
-
-fn wide(b: u8) -> usize
-    ensures { result ≡ b }
-{
-    b as usize
-}
 
 // a number and the byte that ends it
 pub fn put_field(out: &mut [u8], at: usize, n: usize, end: u8) -> usize
@@ -34,13 +28,11 @@ pub fn put_row(out: &mut [u8], at: usize, values: &[usize]) -> usize
     ensures { Puts (row values.now) out.old out.new at result }
 {
     let last = values.len() - 1;
-    let mut i: usize = 0;
     let mut next = at;
-    while i < last {
-        next = put_field(out, next, values[i], 32);
-        i += 1;
+    for value in &values[..last] {
+        next = put_field(out, next, *value, b' ');
     }
-    put_field(out, next, values[last], 10)
+    put_field(out, next, values[last], b'\n')
 }
 
 // values in rows of w
@@ -49,11 +41,9 @@ fn put_grid(out: &mut [u8], at: usize, values: &[u8], w: usize) -> usize
     requires values_in_bounds { at + length (grid_text w 0 values.now) ≤ length out.old }
     ensures { Puts (grid_text w 0 values.now) out.old out.new at result }
 {
-    let mut i: usize = 0;
     let mut next = at;
-    while i < values.len() {
-        next = put_field(out, next, wide(values[i]), end_of(w, i));
-        i += 1;
+    for (i, value) in values.iter().enumerate() {
+        next = put_field(out, next, usize::from(*value), end_of(w, i));
     }
     next
 }
@@ -74,13 +64,10 @@ fn grid_length(values: &[u8]) -> usize
     requires { length values.now ≤ most_cells }
     ensures { (result ≡ grid_length values.now) × (result ≤ 262144) }
 {
-    let mut i: usize = 0;
-    let mut sum: usize = 0;
-    while i < values.len() {
-        sum = sum + digit_count(wide(values[i])) + 1;
-        i += 1;
-    }
-    sum
+    values
+        .iter()
+        .map(|value| digit_count(usize::from(*value)) + 1)
+        .sum()
 }
 
 // lines 1 and 2, with start 2
@@ -106,27 +93,31 @@ fn head_length(m: Measures) -> usize
 }
 
 // How long a sheet is.
-pub fn sheet_length(m: Measures, psf: &[u8], gray: &[u8], dots: &[u8]) -> usize
-    requires { InRange m × Shaped (written_sheet m psf.now gray.now dots.now) }
-    ensures { result ≡ length (sheet_text (written_sheet m
-        psf.now gray.now dots.now)) }
+pub fn sheet_length(setting: Setting, dots: &[u8]) -> usize
+    requires { InRange setting.measures × Shaped (written_sheet setting.measures setting.psf.now setting.gray.now dots.now) }
+    ensures { let s = setting.entry in
+        result ≡ length (sheet_text (written_sheet s.measures s.psf.now s.gray.now dots.now)) }
 {
-    let head = head_length(m);
-    let psf_block = 4 + grid_length(psf);
-    let gray_block = 5 + grid_length(gray);
-    let dots_block = 5 + grid_length(dots);
-    head + psf_block + gray_block + dots_block
+    let head = head_length(setting.measures);
+    let psf = 4 + grid_length(setting.psf);
+    let gray = 5 + grid_length(setting.gray);
+    head + psf + gray + 5 + grid_length(dots)
 }
 
 // Puts a sheet at the front of an output that is long enough, and answers its length.
-pub fn put_sheet(out: &mut [u8], m: Measures, psf: &[u8], gray: &[u8], dots: &[u8]) -> usize
-    requires in_range { InRange m × Shaped (written_sheet m psf.now gray.now dots.now) }
-    requires dots_in_bounds { length (sheet_text (written_sheet m psf.now gray.now dots.now)) ≤ length out.old }
-    ensures { Puts (sheet_text (written_sheet m psf.now gray.now dots.now))
-        out.old out.new 0 result }
+pub fn put_sheet(out: &mut [u8], setting: Setting, dots: &[u8]) -> usize
+    requires in_range { InRange setting.measures × Shaped (written_sheet setting.measures setting.psf.now setting.gray.now dots.now) }
+    requires dots_in_bounds { length (sheet_text (written_sheet setting.measures setting.psf.now setting.gray.now dots.now)) ≤ length out.old }
+    ensures { let s = setting.entry in
+        Puts (sheet_text (written_sheet s.measures s.psf.now s.gray.now dots.now)) out.old out.new 0 result }
 {
-    let head = put_head(out, m);
-    let under_psf = put_block(out, head, b"psf\n", psf, 2 * m.radius + 1);
-    let under_gray = put_block(out, under_psf, b"gray\n", gray, m.width);
-    put_block(out, under_gray, b"dots\n", dots, m.width)
+    let Setting {
+        measures,
+        psf,
+        gray,
+    } = setting;
+    let head = put_head(out, measures);
+    let under_psf = put_block(out, head, b"psf\n", psf, 2 * measures.radius + 1);
+    let under_gray = put_block(out, under_psf, b"gray\n", gray, measures.width);
+    put_block(out, under_gray, b"dots\n", dots, measures.width)
 }

@@ -12,12 +12,13 @@ pub fn put_number(out: &mut [u8], at: usize, n: usize) -> usize
     let end = at + digit_length(n);
     let mut next = end;
     let mut rest = n;
+    // a loop that divides: no iterator gives a number's digits, and a `String` of them would need memory
     while 10 <= rest {
         next -= 1;
-        out[next] = 48 + ((rest % 10) as u8);
-        rest = rest / 10;
+        out[next] = b'0' + (rest % 10) as u8;
+        rest /= 10;
     }
-    out[at] = 48 + (rest as u8);
+    out[at] = b'0' + rest as u8;
     end
 }
 
@@ -26,9 +27,10 @@ fn digit_length(n: usize) -> usize
     ensures { result ≡ length (digits n) }
 {
     let mut rest = n;
-    let mut lower: usize = 0;
+    let mut lower = 0;
+    // a loop that divides: the library has no logarithm of a number
     while 1000 <= rest {
-        rest = rest / 1000;
+        rest /= 1000;
         lower += 3;
     }
     lower + digit_count(rest)
@@ -39,11 +41,9 @@ pub fn digit_count(n: usize) -> usize
     requires { n < 1000 }
     ensures { (result ≡ length (digits n)) × (result ≤ 3) }
 {
-    if n < 10 {
-        return 1;
+    match n {
+        0..=9 => 1,
+        10..=99 => 2,
+        _ => 3,
     }
-    if n < 100 {
-        return 2;
-    }
-    3
 }

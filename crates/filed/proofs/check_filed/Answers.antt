@@ -1,173 +1,142 @@
--- `filed::check_filed` meets its contract: each return is one outcome of `check_call`.
-use mathlib.Core.Bool.{Bool, true}
+-- `filed::check_filed` meets its contract: the outcome is the call's, whatever was read.
+use mathlib.Core.Bool.{true}
 use mathlib.Core.List.{List}
-use mathlib.Core.Logic.{inl, inr}
-use mathlib.Core.Path.{◌≡◌, sym, ◌∙◌, ap, subst}
+use mathlib.Core.Logic.{◌⊎◌, inl, inr}
+use mathlib.Core.Path.{◌≡◌, refl, sym, ◌∙◌, ap, subst}
 use Prim.Native.Nat.{ℕ, ◌≤◌}
 use native.Mathlib.Omega.{arith}
 use lib.IntN.{ℤ}
 use lib.ListN.{length}
 use lib.Seq.{sets}
-use Rattle.model.specs.declared.FiledEnd.{FiledEnd}
-use Rattle.model.specs.declared.Head.{Head}
+use Rattle.model.specs.declared.FiledFigures.{FiledFigures}
+use Rattle.model.specs.declared.Measures.{Measures}
 use Rattle.model.specs.Psf.{total}
 use Rattle.model.specs.Error.{filtered_errors}
 use Rattle.model.specs.Refusal.{PlateFits}
 use Rattle.model.specs.Calls.{result}
-use Rattle.model.specs.Sheet.{Sheet, cells_of, InRange}
+use Rattle.model.specs.Sheet.{Sheet, cells_of}
 use Rattle.model.specs.Program.{sheet_target}
-use Rattle.model.specs.Format.{head_from, head_by, body, parse, sheet_of}
+use Rattle.model.specs.Format.{Head, head_from, head_by, body, parse, sheet_of}
 use Rattle.model.specs.Filed.{filed_room}
 use Rattle.model.specs.FiledCalls.{verdict_of, check_buffers}
 use Rattle.model.proofs.Calls.{ends_as}
-use Rattle.invariants.specs.Reading.{filed_end}
+use Rattle.invariants.specs.Reading.{FiledEnd, filed_end}
+use Rattle.invariants.proofs.Reading.{err_same}
+use Rattle.judge_parts.proofs.Drawn.{some_number}
 use Rattle.filed.specs.Front.{front_of}
-use Rattle.filed.proofs.Reading.{head_refused, in_range, no_room, below_refused}
+use Rattle.filed.proofs.Reading.{head_refused, no_room, below_refused}
 use Rattle.filed.proofs.Whole.{Whole, roomy, table_long, blocks_good, is_given, figures_few, sum_refused}
 use Rattle.filed.proofs.Whole.{plate, in_fronts, checked}
 use Rattle.filed.proofs.check_filed.Goals as goal
+use Rattle.filed.proofs.check_filed.Goals.{then-sum-eq0-via-then-sum-eq0, then-sum-eq0-via-else-sum-eq0+then-sum-gt1024}
 
--- what was lent, and lines 1 and 2, which were read and are not refused
-module _ (bytes psf gray dots : List ℕ) (table : List ℤ) {h : Head} (head_is : h ≡ head_by (head_from 2) bytes)
-    (head_good : h.refusal ≡ 0) where
-  range : InRange h.measures
-  range = in_range bytes psf gray dots table h head_is head_good
+-- lines 1 and 2 that were read, up to a place
+abbrev head : Measures → ℕ → Head
+head m at = record { refusal = 0; at = at; measures = m }
 
-  -- there is room
-  module _ {fits : Bool} (fits_is : fits ≡ filed_room (length psf) (length gray) (length dots) (length table) h.measures)
-      (fits_true : fits ≡ true) where
-    room : filed_room (length psf) (length gray) (length dots) (length table) h.measures ≡ true
-    room = sym fits_is ∙ fits_true
+head_is : (bytes : List ℕ) (m : Measures) (at : ℕ) → let h = head_by (head_from 2) bytes in
+    (h.refusal ≡ 0) × (h.at ≡ at) × (h.measures ≡ m) → head m at ≡ h
+head_is bytes m at r = λ i. record { refusal = (sym r.0) i; at = (sym r.1) i; measures = (sym r.2) i }
 
-    -- nothing that was read is refused
-    module _ {end : FiledEnd} (end_is : end ≡ filed_end h.measures bytes h.at) (end_good : end.refusal ≡ 0) where
-      whole : Whole bytes psf gray dots table h end
-      whole = record {
-        head_is = head_is;
-        head_good = head_good;
-        has_room = room;
-        end_is = end_is;
-        end_good = end_good;
-      }
+-- what follows, with its figures
+abbrev end : FiledFigures → ℕ → FiledEnd
+end f at = record { refusal = 0; at = at; figures = f }
+
+end_is : (bytes : List ℕ) (m : Measures) (from : ℕ) (f : FiledFigures) (at : ℕ) → let e = filed_end m bytes from in
+    (e.refusal ≡ 0) × (e.at ≡ at) × (e.figures ≡ f) → end f at ≡ e
+end_is bytes m from f at r = λ i. record { refusal = (sym r.0) i; at = (sym r.1) i; figures = (sym r.2) i }
+
+-- nothing that was read is refused
+whole : (bytes psf gray dots : List ℕ) (table : List ℤ) (m : Measures) (from : ℕ) (f : FiledFigures) (at : ℕ)
+    → (let h = head_by (head_from 2) bytes in (h.refusal ≡ 0) × (h.at ≡ from) × (h.measures ≡ m))
+    → filed_room (length psf) (length gray) (length dots) (length table) m ≡ true
+    → (let e = filed_end m bytes from in (e.refusal ≡ 0) × (e.at ≡ at) × (e.figures ≡ f))
+    → Whole bytes psf gray dots table (head m from) (end f at)
+whole bytes psf gray dots table m from f at r room s = record {
+  head_is = head_is bytes m from r;
+  head_good = refl;
+  has_room = room;
+  end_is = end_is bytes m from f at s;
+  end_good = refl;
+}
 
 -- the sheet that was read
-abbrev sheet : List ℕ → Head → Sheet
-sheet bytes h = sheet_of h.measures (parse (body h.measures) bytes h.at).values
+abbrev sheet : List ℕ → Measures → ℕ → Sheet
+sheet bytes m at = sheet_of m (parse (body m) bytes at).values
 
-pub returns-then-head-ne0 : goal.returns-then-head-ne0
-returns-then-head-ne0 c =
-    ends_as (head_refused _ _ _ _ _ c.read_head-head.result c.read_head-head.ensures c.if-head-ne0.true)
-
-pub has_filed_room-requires : goal.has_filed_room-requires
-has_filed_room-requires c =
-    let a = c.args in
-    range a.bytes.now a.psf.now a.gray.now a.dots.now a.table.now c.read_head-head.ensures c.if-head-ne0.false
+pub returns-in_err-head : goal.returns-in_err-head
+returns-in_err-head c =
+    let r = c.in_err-head.ensures in
+    rw (err_same c.from_residual.result c.from_residual.ensures.1, ← r.0, ← r.1)
+    (ends_as (head_refused _ _ _ _ _ _ refl (λ z. some_number _ (sym r.0 ∙ z))))
 
 pub returns-then-not-has_filed_room : goal.returns-then-not-has_filed_room
 returns-then-not-has_filed_room c =
     ends_as
-    (no_room _ _ _ _ _ c.read_head-head.result c.read_head-head.ensures c.if-head-ne0.false
+    (no_room _ _ _ _ _ _ (head_is _ _ _ c.in_ok-head.ensures) refl
     (sym c.has_filed_room.ensures ∙ c.if-not-has_filed_room.true))
 
-pub judge_filed-end-requires : goal.judge_filed-end-requires
-judge_filed-end-requires c =
-    let a = c.args in
-    range a.bytes.now a.psf.now a.gray.now a.dots.now a.table.now c.read_head-head.ensures c.if-head-ne0.false
+pub returns-in_err-figures : goal.returns-in_err-figures
+returns-in_err-figures c =
+    let r = c.in_err-figures.ensures in
+    rw (err_same c.from_residual-in_err-figures.result c.from_residual-in_err-figures.ensures.1, ← r.0, ← r.1)
+    (ends_as
+    (below_refused _ _ _ _ _ _ (head_is _ _ _ c.in_ok-head.ensures) refl
+    (sym c.has_filed_room.ensures ∙ c.if-not-has_filed_room.false) _ refl (λ z. some_number _ (sym r.0 ∙ z))))
 
-pub returns-then-end-ne0 : goal.returns-then-end-ne0
-returns-then-end-ne0 c =
-    ends_as
-    (below_refused _ _ _ _ _ c.read_head-head.result c.read_head-head.ensures c.if-head-ne0.false
-    (sym c.has_filed_room.ensures ∙ c.if-not-has_filed_room.false) c.judge_filed-end.result
-    c.judge_filed-end.ensures (λ z. omega (arith, c.if-end-ne0.true)))
-
--- nothing that was read is refused
 pub psf_sum-sum-requires : goal.psf_sum-sum-requires
 psf_sum-sum-requires c =
-    let a = c.args in
-    record {
-      in_range =
-          range a.bytes.now a.psf.now a.gray.now a.dots.now a.table.now c.read_head-head.ensures c.if-head-ne0.false;
-      at_value =
-          blocks_good
-          (whole a.bytes.now a.psf.now a.gray.now a.dots.now a.table.now c.read_head-head.ensures
-          c.if-head-ne0.false c.has_filed_room.ensures c.if-not-has_filed_room.false c.judge_filed-end.ensures
-          c.if-end-ne0.false);
-    }
+    blocks_good
+    (whole c.args.bytes.now c.args.psf.now c.args.gray.now c.args.dots.now c.args.table.now _ _ _ _
+    c.in_ok-head.ensures (sym c.has_filed_room.ensures ∙ c.if-not-has_filed_room.false) c.in_ok-figures.ensures)
 
 pub returns-then-sum-eq0 : goal.returns-then-sum-eq0
 returns-then-sum-eq0 c =
-    let a = c.args in
-    let good = whole a.bytes.now a.psf.now a.gray.now a.dots.now a.table.now c.read_head-head.ensures
-    c.if-head-ne0.false c.has_filed_room.ensures c.if-not-has_filed_room.false c.judge_filed-end.ensures
-    c.if-end-ne0.false in
-    ends_as (sum_refused good (inl (sym c.psf_sum-sum.ensures ∙ c.if-sum-eq0.true)))
+    let good = whole c.args.bytes.now c.args.psf.now c.args.gray.now c.args.dots.now c.args.table.now _ _ _ _
+    c.in_ok-head.ensures (sym c.has_filed_room.ensures ∙ c.if-not-has_filed_room.false) c.in_ok-figures.ensures in
+    elim c.then-sum-eq0.branch [
+      | then-sum-eq0-via-then-sum-eq0 w ↦ ends_as (sum_refused good (inl (sym c.psf_sum-sum.ensures ∙ w.if-sum-eq0.true)))
+      | then-sum-eq0-via-else-sum-eq0+then-sum-gt1024 w ↦
+          ends_as (sum_refused good (inr (omega (arith, w.if-sum-gt1024.true, c.psf_sum-sum.ensures))))
+    ]
 
--- the sum is not 0
-pub returns-then-sum-gt1024 : goal.returns-then-sum-gt1024
-returns-then-sum-gt1024 c =
-    let a = c.args in
-    let good = whole a.bytes.now a.psf.now a.gray.now a.dots.now a.table.now c.read_head-head.ensures
-    c.if-head-ne0.false c.has_filed_room.ensures c.if-not-has_filed_room.false c.judge_filed-end.ensures
-    c.if-end-ne0.false in
-    ends_as (sum_refused good (inr (omega (arith, c.if-sum-gt1024.true, c.psf_sum-sum.ensures))))
-
--- nor above 1,024
 pub store_body-requires : goal.store_body-requires
 store_body-requires c =
-    let a = c.args in
-    let good = whole a.bytes.now a.psf.now a.gray.now a.dots.now a.table.now c.read_head-head.ensures
-    c.if-head-ne0.false c.has_filed_room.ensures c.if-not-has_filed_room.false c.judge_filed-end.ensures
-    c.if-end-ne0.false in
-    record {
-      in_range =
-          range a.bytes.now a.psf.now a.gray.now a.dots.now a.table.now c.read_head-head.ensures c.if-head-ne0.false;
-      at_value = blocks_good good;
-      dots_value = roomy good;
-    }
+    let good = whole c.args.bytes.now c.args.psf.now c.args.gray.now c.args.dots.now c.args.table.now _ _ _ _
+    c.in_ok-head.ensures (sym c.has_filed_room.ensures ∙ c.if-not-has_filed_room.false) c.in_ok-figures.ensures in
+    record { at_value = blocks_good good; dots_value = roomy good }
 
 pub judge_front-requires : goal.judge_front-requires
 judge_front-requires c =
-    let a = c.args in
-    let h = c.read_head-head.result in
-    let m = h.measures in
-    let good = whole a.bytes.now a.psf.now a.gray.now a.dots.now a.table.now c.read_head-head.ensures
-    c.if-head-ne0.false c.has_filed_room.ensures c.if-not-has_filed_room.false c.judge_filed-end.ensures
-    c.if-end-ne0.false in
-    let low : 1 ≤ total (sheet a.bytes.now h).psf = omega (arith, c.if-sum-eq0.false, c.psf_sum-sum.ensures) in
-    let high : total (sheet a.bytes.now h).psf ≤ 1024 = omega (arith, c.if-sum-gt1024.false, c.psf_sum-sum.ensures) in
+    let m = c.in_ok-head.head.value.measures in
+    let good = whole c.args.bytes.now c.args.psf.now c.args.gray.now c.args.dots.now c.args.table.now _ _ _ _
+    c.in_ok-head.ensures (sym c.has_filed_room.ensures ∙ c.if-not-has_filed_room.false) c.in_ok-figures.ensures in
+    let low : 1 ≤ total (sheet c.args.bytes.now m c.in_ok-head.head.at).psf = omega (arith, c.psf_sum-sum.ensures) in
+    let high : total (sheet c.args.bytes.now m c.in_ok-head.head.at).psf ≤ 1024 = omega (arith, c.psf_sum-sum.ensures) in
     let put = c.store_body.ensures in
-    let stands : front_of m c.store_body.new.psf c.store_body.new.gray c.store_body.new.dots ≡ sheet a.bytes.now h =
+    let stands : front_of m c.store_body.new.psf c.store_body.new.gray c.store_body.new.dots
+    ≡ sheet c.args.bytes.now m c.in_ok-head.head.at =
     (λ i. front_of m (put i).psf (put i).gray (put i).dots) ∙ in_fronts good low high in
     record {
-      in_range = (
-        range a.bytes.now a.psf.now a.gray.now a.dots.now a.table.now c.read_head-head.ensures
-            c.if-head-ne0.false,
-        is_given good,
-        table_long good,
-        figures_few good,
-      );
-      fact = subst (λ x. PlateFits m x.psf x.gray x.dots (cells_of m)) (sym stands) (plate good low high);
+      given = (is_given good, table_long good, figures_few good);
+      fits = subst (λ x. PlateFits m x.psf x.gray x.dots (cells_of m)) (sym stands) (plate good low high);
     }
 
 pub returns : goal.returns
 returns c =
-    let a = c.args in
-    let h = c.read_head-head.result in
-    let m = h.measures in
-    let good = whole a.bytes.now a.psf.now a.gray.now a.dots.now a.table.now c.read_head-head.ensures
-    c.if-head-ne0.false c.has_filed_room.ensures c.if-not-has_filed_room.false c.judge_filed-end.ensures
-    c.if-end-ne0.false in
-    let low : 1 ≤ total (sheet a.bytes.now h).psf = omega (arith, c.if-sum-eq0.false, c.psf_sum-sum.ensures) in
-    let high : total (sheet a.bytes.now h).psf ≤ 1024 = omega (arith, c.if-sum-gt1024.false, c.psf_sum-sum.ensures) in
+    let m = c.in_ok-head.head.value.measures in
+    let good = whole c.args.bytes.now c.args.psf.now c.args.gray.now c.args.dots.now c.args.table.now _ _ _ _
+    c.in_ok-head.ensures (sym c.has_filed_room.ensures ∙ c.if-not-has_filed_room.false) c.in_ok-figures.ensures in
+    let low : 1 ≤ total (sheet c.args.bytes.now m c.in_ok-head.head.at).psf = omega (arith, c.psf_sum-sum.ensures) in
+    let high : total (sheet c.args.bytes.now m c.in_ok-head.head.at).psf ≤ 1024 = omega (arith, c.psf_sum-sum.ensures) in
     let put = c.store_body.ensures in
-    let stands : front_of m c.store_body.new.psf c.store_body.new.gray c.store_body.new.dots ≡ sheet a.bytes.now h =
+    let stands : front_of m c.store_body.new.psf c.store_body.new.gray c.store_body.new.dots
+    ≡ sheet c.args.bytes.now m c.in_ok-head.head.at =
     (λ i. front_of m (put i).psf (put i).gray (put i).dots) ∙ in_fronts good low high in
     let done = ends_as (checked good low high) in
-    let verdict = c.judge_front.ensures.value
-    ∙ ap (λ x. verdict_of x c.judge_filed-end.result.figures) stands in
+    let verdict = c.judge_front.ensures.value ∙ ap (λ x. verdict_of x c.in_ok-figures.figures.value) stands in
     let filled = c.judge_front.ensures.table_after
-    ∙ ap (λ x. sets a.table.now 0 (filtered_errors (sheet_target x) x.dots)) stands in
+    ∙ ap (λ x. sets c.args.table.now 0 (filtered_errors (sheet_target x) x.dots)) stands in
     record {
       reply_is = ap result verdict ∙ done.reply_is;
       left_is = (λ i. check_buffers (put i).psf (put i).gray (put i).dots (filled i)) ∙ done.left_is;

@@ -9,21 +9,20 @@ use Rattle.model.specs.Ledger.{count_of}
 use Rattle.filed_judge.proofs.filed_stats.Goals as goal
 
 pub overflow_cast-result : goal.overflow_cast-result
-overflow_cast-result c = let s = c in record { sfits = omega (arith, s.requires.2.each 1) }
+overflow_cast-result c = record { sfits = omega (arith, c.requires.2.each 1) }
 
 pub overflow_cast-result-2 : goal.overflow_cast-result-2
-overflow_cast-result-2 c = let s = c in record { sfits = omega (arith, s.requires.2.each 0) }
+overflow_cast-result-2 c = record { sfits = omega (arith, c.requires.2.each 0) }
 
 pub start_dots-requires : goal.start_dots-requires
-start_dots-requires c = let s = c in (s.requires.1, s.requires.2.each 2, s.requires.2.each 3)
+start_dots-requires c = (c.requires.1, c.requires.2.each 2, c.requires.2.each 3)
 
 pub returns : goal.returns
 returns c =
-    let s = c in
-    let f = s.args.f in
-    let after = (of_cast w64 f.after (s.requires.2.each 1) (lit< tt)).value in
-    let before = (of_cast w64 f.before (s.requires.2.each 0) (lit< tt)).value in
-    let start = c.start_dots.ensures ∙ ap (λ k. count_of (pos k -ℤ pos f.on +ℤ pos f.off)) s.requires.0 in
+    let f = c.args.f in
+    let after = (of_cast w64 f.after (c.requires.2.each 1) (lit< tt)).value in
+    let before = (of_cast w64 f.before (c.requires.2.each 0) (lit< tt)).value in
+    let start = c.start_dots.ensures ∙ ap (λ k. count_of (pos k -ℤ pos f.on +ℤ pos f.off)) c.requires.0 in
     λ i. record {
       error = after i;
       figures =

@@ -14,7 +14,7 @@ use Rattle.filed_judge.proofs.judge_plate.Goals as goal
 use Rattle.filed_judge.proofs.judge_plate.Goals.{After-filter_and_square-squared, Start}
 
 pub filter_and_square-squared-requires : goal.filter_and_square-squared-requires
-filter_and_square-squared-requires c = let s = c in s.requires.plate_fits.halftone
+filter_and_square-squared-requires c = c.requires.plate_fits.halftone
 
 -- once the table is filled
 module _ (k : After-filter_and_square-squared) where
@@ -31,7 +31,7 @@ module _ (k : After-filter_and_square-squared) where
   read : squared ≡ k.filter_and_square-squared.result
   read = read_back w64 k.filter_and_square-squared.result k.filter_and_square-squared.type_inv
 
-  measured : Measured s.args.m s.args.psf.now s.args.gray.now s.args.dots.now left squared
+  measured : Measured s.args.setting.measures s.args.setting.psf.now s.args.setting.gray.now s.args.dots.now left squared
   measured = measured_by s.requires.plate_fits k.filter_and_square-squared.ensures.0 (read ∙ k.filter_and_square-squared.ensures.1)
 
   filed-is : to_z w64 s.args.f.after ≡ pos s.args.f.after
@@ -46,21 +46,19 @@ resting-requires c = let k = (goal.at.resting-requires c).After-filter_and_squar
 pub returns : goal.returns
 unfolding verdict_of
 returns c =
-    let l = c in
     let k = (goal.at.returns c).After-filter_and_square-squared in
-    let w = c in
     let a = (s k).args in
     let figure = figure_by a.f.after _ (filed-is k) (read k) k.filter_and_square-squared.ensures.1 in record {
       value = λ i. record {
-        measures = a.m;
+        measures = a.setting.measures;
         filed = filed-is k i;
         squared = (measured k).squared_is i;
         figure = figure i;
-        ledger = l.ledger_fits.ensures i;
-        rest = w.resting.ensures i;
+        ledger = c.ledger_fits.ensures i;
+        rest = c.resting.ensures i;
       };
       table_after = k.filter_and_square-squared.ensures.0;
     }
 
 pub overflow_cast-filed : goal.overflow_cast-filed
-overflow_cast-filed c = let s = c in record { sfits = omega (arith, s.requires.at_most.0.each 1) }
+overflow_cast-filed c = record { sfits = omega (arith, c.requires.at_most.0.each 1) }

@@ -1,10 +1,18 @@
--- `sheet_read::read_head` meets its contract.
-use Rattle.sheet_read.proofs.Head.{five_fields}
+-- `sheet_read::read_head` meets its contract: each number that it read is in its field.
+use Rattle.sheet_fields.proofs.Parts.{field_range}
 use Rattle.sheet_read.proofs.read_head.Goals as goal
 
-pub returns : goal.returns
-returns c =
-    let l = c in
-    five_fields _ _ l.read_names-line.result l.read_names-line.ensures _ _ _ _ _
-    c.next_field-width.ensures c.next_field-height.ensures
-    c.next_field-radius.ensures c.next_field-reach.ensures c.next_field-start.ensures
+pub invariant_of-result : goal.invariant_of-result
+invariant_of-result c =
+    let s = c.args.s.now in
+    let kind = field_range c.args.least 2 10 s c.in_ok-reach.reach.at c.in_ok-start.ensures in
+    record {
+      in_range =
+          record {
+            wide = field_range 1 256 32 s c.in_ok-line.line c.in_ok-width.ensures;
+            high = field_range 1 256 32 s c.in_ok-width.width.at c.in_ok-height.ensures;
+            near = (field_range 0 3 32 s c.in_ok-height.height.at c.in_ok-radius.ensures).1;
+            reached = (field_range 0 6 32 s c.in_ok-radius.radius.at c.in_ok-reach.ensures).1;
+            kind = kind.1;
+          };
+    }

@@ -5,6 +5,4 @@ use Rattle.sheet_write.proofs.Parts.{head_length_lem}
 use Rattle.sheet_write.proofs.head_length.Goals as goal
 
 pub returns : goal.returns
-returns c =
-    let s = c in
-    (omega (arith, head_length_lem s.args.m, length_low 2 (omega arith)), omega arith)
+returns c = (omega (arith, head_length_lem c.args.m, length_low 2 (omega arith)), omega arith)

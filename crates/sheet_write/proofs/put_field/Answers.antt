@@ -3,7 +3,4 @@ use Rattle.model.proofs.Puts.{puts_byte, puts_then}
 use Rattle.sheet_write.proofs.put_field.Goals as goal
 
 pub returns : goal.returns
-returns c =
-    let s = c in
-    let put = c in
-    puts_then put.put_number-next.ensures (puts_byte s.args.end)
+returns c = puts_then c.put_number-next.ensures (puts_byte c.args.end)

@@ -4,26 +4,9 @@ use native.Mathlib.Omega.{arith}
 use Rattle.model.proofs.Text.{length_most}
 use Rattle.text_decimal.proofs.Digits.{three_more}
 use Rattle.text_decimal.proofs.digit_length.Goals as goal
-use Rattle.text_decimal.proofs.digit_length.Goals.{At-loop-rest, Start}
 
 pub loop-rest-init : goal.loop-rest-init
-loop-rest-init c =
-    let s = (goal.at.loop-rest-init c).Start in
-    (omega arith, length_most 19 s.args.n (omega arith))
-
-pub overflow_add-lower : goal.overflow_add-lower
-overflow_add-lower c = omega arith
-
-pub loop-rest-smaller : goal.loop-rest-smaller
-loop-rest-smaller c = omega arith
+loop-rest-init c = (omega arith, length_most 19 c.args.n (omega arith))
 
 pub loop-rest-preserved : goal.loop-rest-preserved
-loop-rest-preserved c =
-    let l = (goal.at.loop-rest-preserved c).At-loop-rest in
-    (omega (arith, three_more l.loop-rest.rest (omega arith)), omega arith)
-
-pub overflow_add-result : goal.overflow_add-result
-overflow_add-result c = omega arith
-
-pub returns : goal.returns
-returns c = omega arith
+loop-rest-preserved c = (omega (arith, three_more c.loop-rest.rest (omega arith)), omega arith)

@@ -1,2 +1,0 @@
--- What the proofs of reading and writing a sheet share.
-pub mod Outcomes
