@@ -1,2 +1,2 @@
--- The laws of samples that stand in a file from a place on.
-pub mod Places
+-- The laws of the samples of a raster.
+pub mod Samples

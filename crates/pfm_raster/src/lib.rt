@@ -1,42 +1,34 @@
 // The raster of a PFM: its samples looked through in file order, and its gray stored row by row.
 #![tactic(auto)]
 
-ghost use Rattle.std.specs.Prelude.{◌≡◌, ◌+◌, ◌*◌, ◌-◌, ◌≤◌, ◌<◌, length, drop};
+ghost use Rattle.std.specs.Prelude.{◌≡◌, ◌+◌, ◌*◌, ◌-◌, ◌≤◌, ◌<◌, length, MatchOption};
 ghost use Rattle.std.proofs.lemmas.List.Edits.{sets};
 ghost use Rattle.model.specs.Basic.{tabulate};
 ghost use Rattle.model.specs.Error.{most_cells};
 ghost use Rattle.model.specs.Netpbm.{InSize, cells_in};
-ghost use Rattle.model.specs.Pfm.{word_at, sample_of, gray_of, first_no_shade, raster_gray};
+ghost use Rattle.model.specs.Pfm.{sample_at, gray_of, first_no_shade, raster_gray};
 
 use model::Size;
 use pfm_samples::{gray_of, is_no_shade, word_at};
 
-// The first sample in file order that is no shade, of a raster that stands in a file from a place on; as many as there
-// are cells where there is none.
-pub fn first_no_shade(little: bool, file: &[u8], at: usize, cells: usize) -> usize
-    requires { (cells ≤ most_cells) × (at + 4 * cells ≤ length file.now) }
-    ensures { result ≡ first_no_shade little (drop at file.now) 0 cells }
+// The first of so many samples in file order that is no shade.
+pub fn first_no_shade(little: bool, raster: &[u8], cells: usize) -> Option<usize>
+    requires { (cells ≤ most_cells) × (4 * cells ≤ length raster.now) }
+    ensures { MatchOption result
+        (first_no_shade little raster.now 0 cells ≡ cells)
+        (λ i. (i < cells) × (i ≡ first_no_shade little raster.now 0 cells)) }
 {
-    let mut i: usize = 0;
-    while i < cells {
-        if is_no_shade(word_at(little, file, at + 4 * i)) {
-            return i;
-        }
-        i += 1;
-    }
-    i
+    (0..cells).find(|&i| is_no_shade(word_at(little, raster, 4 * i)))
 }
 
-// the gray of a row of samples that stand in a file from a place on, into gray from a place on
-fn store_row(little: bool, file: &[u8], from: usize, width: usize, gray: &mut [u8], to: usize)
-    requires { (width ≤ 256) × (from + 4 * width ≤ length file.now) × (to + width ≤ length gray.old) }
-    ensures { gray.new ≡ sets gray.old to
-        (tabulate width (λ x. gray_of (sample_of (word_at little file.now (from + 4 * x))))) }
+// the gray of a row of samples, into gray from a place on
+fn store_row(little: bool, raster: &[u8], first: usize, width: usize, gray: &mut [u8], to: usize)
+    requires { (4 * (first + width) ≤ length raster.now) × (to + width ≤ length gray.old) }
+    ensures { gray.new
+        ≡ sets gray.old to (tabulate width (λ x. gray_of (sample_at little raster.now (first + x)))) }
 {
-    let mut x: usize = 0;
-    while x < width {
-        gray[to + x] = gray_of(word_at(little, file, from + 4 * x));
-        x += 1;
+    for x in 0..width {
+        gray[to + x] = gray_of(word_at(little, raster, 4 * (first + x)));
     }
 }
 
@@ -48,16 +40,20 @@ fn file_row(size: Size, row: usize) -> usize
     size.height - 1 - row
 }
 
-// Stores the gray of a raster that stands in a file from a place on, to the front of gray.
-pub fn store_rows(size: Size, little: bool, file: &[u8], at: usize, gray: &mut [u8])
-    requires { InSize size × (at + 4 * cells_in size ≤ length file.now) × (cells_in size ≤ length gray.old) }
-    ensures { gray.new
-        ≡ sets gray.old 0 (raster_gray size little (drop at file.now)) }
+// Stores the gray of a raster to the front of gray.
+pub fn store_rows(size: Size, little: bool, raster: &[u8], gray: &mut [u8])
+    requires { InSize size × (4 * cells_in size ≤ length raster.now) × (cells_in size ≤ length gray.old) }
+    ensures { gray.new ≡ sets gray.old 0 (raster_gray size little raster.now) }
 {
-    let mut row: usize = 0;
-    while row < size.height {
-        let from = at + 4 * (file_row(size, row) * size.width);
-        store_row(little, file, from, size.width, gray, row * size.width);
-        row += 1;
+    let width = size.width;
+    for row in 0..size.height {
+        store_row(
+            little,
+            raster,
+            file_row(size, row) * width,
+            width,
+            gray,
+            row * width,
+        );
     }
 }

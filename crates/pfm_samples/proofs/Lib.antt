@@ -1,5 +1,4 @@
 -- The laws of words and floats that the code rests on.
-pub mod Words
 pub mod Exact
 pub mod Rounded
 pub mod Shades

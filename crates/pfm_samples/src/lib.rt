@@ -6,31 +6,23 @@ ghost use Rattle.std.specs.Float.{binary32};
 ghost use Rattle.std.specs.Float.Ieee.{fits, nan_bits};
 ghost use Rattle.std.specs.Float.Ieee.Exact.{HasValue};
 ghost use Rattle.std.specs.Float.Ieee.Positive.{num, den, positive};
-ghost use Rattle.model.specs.Pfm.{word, word_at, is_shade, sample_of, brightness, is_no_shade};
+ghost use Rattle.model.specs.Pfm.{word_at, is_shade, sample_of, brightness, is_no_shade};
 ghost use Rattle.model.specs.Pfm.{gray_of};
 
 use model::Sample;
 
-// four bytes as a number, the highest first
-fn word(a: u8, b: u8, c: u8, d: u8) -> u32
-    ensures { result ≡ word a b c d }
-{
-    (((a as u32) * 256 + (b as u32)) * 256 + (c as u32)) * 256 + (d as u32)
-}
-
 // The four bytes from a place on, in the byte order of the file.
+#[tactic(auto, unfolding(model::specs::Pfm::word_at))]
 pub fn word_at(little: bool, s: &[u8], at: usize) -> u32
     requires { at + 4 ≤ length s.now }
     ensures { result ≡ word_at little s.now at }
 {
-    let a = s[at];
-    let b = s[at + 1];
-    let c = s[at + 2];
-    let d = s[at + 3];
+    let bytes = [s[at], s[at + 1], s[at + 2], s[at + 3]];
     if little {
-        return word(d, c, b, a);
+        u32::from_le_bytes(bytes)
+    } else {
+        u32::from_be_bytes(bytes)
     }
-    word(a, b, c, d)
 }
 
 // whether these are the bits of no number: past those of an infinity, without the sign
@@ -46,22 +38,21 @@ fn sample_of(n: u32) -> Sample
     ensures { result ≡ sample_of n }
 {
     if n <= 0x3F80_0000 {
-        let low = f32::from_bits(n);
-        return Sample::Shade(low);
+        return Sample::Shade(f32::from_bits(n));
     }
     if is_nan_pattern(n) {
         return Sample::NotANumber;
     }
     let v = f32::from_bits(n);
-    if 0.0 <= v {
-        if v <= 1.0 {
-            return Sample::Shade(v);
-        }
+    if 0.0 <= v && v <= 1.0 {
+        Sample::Shade(v)
+    } else {
+        Sample::Outside(v)
     }
-    Sample::Outside(v)
 }
 
-// a float above 0 of 32 bits in 64, which is the same value
+// a float above 0 of 32 bits in 64, which is the same value; `f64::from` would test for no number once more, which is
+// slower
 fn widened(v: f32) -> f64
     requires { T (positive v) }
     ensures { (result ≡ v) × T (fits binary32 result) }
@@ -85,7 +76,7 @@ fn brightness(v: f32) -> u8
 {
     if v > 0.0 {
         let sum = times_255(v) + 4503599627370496.0;
-        return (f64::to_bits(sum) % 256) as u8;
+        return (sum.to_bits() % 256) as u8;
     }
     0
 }
@@ -94,22 +85,15 @@ fn brightness(v: f32) -> u8
 pub fn is_no_shade(n: u32) -> bool
     ensures { result ≡ is_no_shade (sample_of n) }
 {
-    let sample = sample_of(n);
-    match sample {
-        Sample::Shade(_) => false,
-        Sample::Outside(_) => true,
-        Sample::NotANumber => true,
-    }
+    !matches!(sample_of(n), Sample::Shade(_))
 }
 
 // The gray of the sample that 32 bits are read as; 0 where it is no shade.
 pub fn gray_of(n: u32) -> u8
     ensures { result ≡ gray_of (sample_of n) }
 {
-    let sample = sample_of(n);
-    match sample {
+    match sample_of(n) {
         Sample::Shade(v) => 255 - brightness(v),
-        Sample::Outside(_) => 0,
-        Sample::NotANumber => 0,
+        Sample::Outside(_) | Sample::NotANumber => 0,
     }
 }

@@ -1,80 +1,68 @@
--- The outcomes of the calls, one law for each.
---   pbm_refused, pbm_read                   a PBM is refused, or read
---   pgm_refused, pgm_read                   a PGM likewise
---   write_refused, write_short, write_done  a picture is refused because of what was handed; 12; it is written
-use mathlib.Core.List.{List, [], ◌∷◌, ◌++◌}
-use mathlib.Core.Path.{◌≡◌, sym, ◌∙◌, ap}
-use Prim.Native.Nat.{ℕ, ◌≤◌, ◌<◌}
-use native.Mathlib.Omega.{arith}
-use borrow.Author.Tests.{lt-ltb, le-ltb}
-use lib.Dec.{T}
-use lib.ListN.{length, drop}
-use lib.Seq.{sets}
-use Rattle.model.specs.declared.PictureHeader.{PictureHeader}
-use Rattle.model.specs.Refusal.{Refusal, first_of}
-use Rattle.model.specs.Calls.{result, refused, Outcome, Ends, unless}
-use Rattle.model.specs.Netpbm.{unpacked, negated}
-use Rattle.model.specs.PictureHeader.{pbm_header, pgm_header, size_of}
-use Rattle.model.specs.PictureCalls.{pbm_refusals, pgm_refusals, bad_room, read_pbm_call, read_pgm_call}
-use Rattle.model.proofs.Refusal.{numbered, by_first, by_second}
-use Rattle.model.proofs.Calls.{ends_refused, ends_done}
+-- The outcomes of the calls.
+--   header_is   the header that was found, as the definitions have it
+--   ends_err    a call that a judge refuses
+--   has_room    a buffer that is long enough
+--   file_put    a file put, its head and then its raster
+use Rattle.std.proofs.Common.{◌≡◌, ℕ, ◌+◌, ◌-◌, ◌≤◌, Bool, true, false, List, [], ◌∷◌, ◌++◌, length, take, drop, Some, refl, sym, ◌∙◌, ap, arith, append_assoc}
+use mathlib.Core.List.{append-nil}
+use native.Mathlib.Nat.{zero-add}
+use borrow.Rule.Slice.PartMut.{put_mid, mid_of}
+use borrow.Author.Tests.{ltb-false}
+use lib.Seq.{sets, drop-drop}
+use Rattle.std.specs.Prelude.{Result}
+use Rattle.std.specs.Result.{IsErrAnd}
+use Rattle.std.proofs.lemmas.Result.{err_from_is_err_and}
+use Rattle.std.proofs.lemmas.Option.{same_Some, none-some}
+use Rattle.std.proofs.lemmas.Slice.{between_to_end}
+use Rattle.std.proofs.lemmas.List.Edits.{sets-eq}
+use lib.ListN.{length-drop, drop_of_length-le}
+use Rattle.model.specs.declared.After.{After}
+use Rattle.model.specs.declared.NetpbmHeader.{NetpbmHeader}
+use Rattle.model.specs.PictureHeader.{PictureHeader}
+use Rattle.model.specs.declared.Reason.{Reason}
+use Rattle.model.specs.Reason.{number_of}
+use Rattle.model.specs.Calls.{reply_of, Outcome, Ends, unless}
+use Rattle.model.specs.Text.{Puts}
+use Rattle.model.specs.Refusal.{first_of}
+use Rattle.model.specs.PictureCalls.{bad_room}
+use Rattle.model.proofs.Calls.{ends_refused}
+use Rattle.model.proofs.Puts.{puts_rest}
+use Rattle.model.proofs.Refusal.{none}
+use Rattle.invariants.specs.Pictures.{header_in, header_of}
+use Rattle.judge_parts.proofs.Drawn.{some_number}
 
--- ---- reading, by the header that was found
-module _ (s buffer : List ℕ) (h : PictureHeader) {x : ℕ} where
-  module _ (e : h ≡ pbm_header s) (f : x ≡ first_of (pbm_refusals h (length s) (length buffer))) where
-    drawn_pbm : x ≡ first_of (pbm_refusals (pbm_header s) (length s) (length buffer))
-    drawn_pbm = f ∙ ap (λ h. first_of (pbm_refusals h (length s) (length buffer))) e
+pub header_is : (h : PictureHeader) (x : After NetpbmHeader) → header_of h ≡ Some x → h ≡ header_in x
+header_is h x e = go h.good refl
+  where
+    go : (b : Bool) → h.good ≡ b → h ≡ header_in x
+    go true good = rw (← same_Some _ x (rw good at e), ← good)
+    go false good = absurd (none-some x (rw good at e))
 
-    pub pbm_refused : (x ≡ 0 → ⊥) → Ends (read_pbm_call s buffer) (refused x 0) buffer
-    unfolding read_pbm_call
-    pbm_refused z = ends_refused buffer _ _ drawn_pbm z
+pub ends_err : {A B : Type 0} (b : B) (o : Outcome A B) (n : ℕ) (q : Result A Reason) (r : Reason) → IsErrAnd q (λ a. a ≡ r)
+    → number_of r ≡ n → Ends (unless n b o) (reply_of q) b
+ends_err b o n q r h e =
+    let (a, is, same) = err_from_is_err_and q h in
+    rw (is, same) (ends_refused b o n e (some_number r))
 
-    pub pbm_read : x ≡ 0 → {l : List ℕ} → l ≡ sets buffer 0 (unpacked (size_of h) (drop h.at s))
-        → Ends (read_pbm_call s buffer) (result (size_of h)) l
-    unfolding read_pbm_call
-    pbm_read z k =
-        ends_done buffer _ _ (sym drawn_pbm ∙ z)
-        (record {
-          reply_is = ap (λ h. result (size_of h)) e;
-          left_is = k ∙ ap (λ h. sets buffer 0 (unpacked (size_of h) (drop h.at s))) e;
-        })
+front_put : (a : ℕ) (xs l : List ℕ) → a + length l ≤ length xs
+    → put_mid a (length xs - a) xs (sets (mid_of a (length xs - a) xs) 0 l) ≡ sets xs a l
+front_put a xs l h =
+    let long = length-drop a xs in
+    let part = between_to_end xs a (length xs) (omega arith) in
+    let past = drop_of_length-le (drop a xs) {i = length xs - a} (omega arith) in
+    let into = rw zero-add at (sets-eq l (drop a xs) 0 (omega arith)) in
+    rw (part, into, past, append-nil, drop-drop) (sym (sets-eq l xs a h ∙ append_assoc (take a xs) l (drop (a + length l) xs)))
 
-  module _ (e : h ≡ pgm_header s) (f : x ≡ first_of (pgm_refusals h (length s) (length buffer))) where
-    drawn_pgm : x ≡ first_of (pgm_refusals (pgm_header s) (length s) (length buffer))
-    drawn_pgm = f ∙ ap (λ h. first_of (pgm_refusals h (length s) (length buffer))) e
+-- ---- writing
+pub has_room : (needed room : ℕ) → 0 ≡ first_of (bad_room needed room ∷ []) → needed ≤ room
+has_room needed room e =
+    let (short, _) = none (bad_room needed room ∷ []) tt e refl in
+    ltb-false room needed short
 
-    pub pgm_refused : (x ≡ 0 → ⊥) → Ends (read_pgm_call s buffer) (refused x 0) buffer
-    unfolding read_pgm_call
-    pgm_refused z = ends_refused buffer _ _ drawn_pgm z
-
-    pub pgm_read : x ≡ 0 → {l : List ℕ} → l ≡ sets buffer 0 (negated (drop h.at s))
-        → Ends (read_pgm_call s buffer) (result (size_of h)) l
-    unfolding read_pgm_call
-    pgm_read z k =
-        ends_done buffer _ _ (sym drawn_pgm ∙ z)
-        (record {
-          reply_is = ap (λ h. result (size_of h)) e;
-          left_is = k ∙ ap (λ h. sets buffer 0 (negated (drop h.at s))) e;
-        })
-
--- ---- writing: what was handed is judged by a list, and then 12
-module _ (l : List Refusal) (t : T (numbered l)) (file out : List ℕ) {x : ℕ} (e : x ≡ first_of l) where
-  abbrev written : Outcome ℕ (List ℕ)
-  written =
-      unless (first_of (l ++ (bad_room (length file) (length out) ∷ []))) out
-      (record { reply = result (length file); left = sets out 0 file })
-
-  pub write_refused : (x ≡ 0 → ⊥) → Ends written (refused x 0) out
-  write_refused z = ends_refused out _ _ (by_first l (bad_room (length file) (length out) ∷ []) t e z) z
-
-  pub write_short : x ≡ 0 → length out < length file → Ends written (refused 12 0) out
-  write_short z h =
-      let short : 12 ≡ first_of (bad_room (length file) (length out) ∷ []) = rw (lt-ltb (length out) (length file) h) in
-      ends_refused out _ _ (by_second l (bad_room (length file) (length out) ∷ []) t e z short) (λ z. omega arith)
-
-  pub write_done : x ≡ 0 → length file ≤ length out → {k : ℕ} {left : List ℕ} → k ≡ length file
-      → left ≡ sets out 0 file → Ends written (result k) left
-  write_done z h f g =
-      let room : 0 ≡ first_of (bad_room (length file) (length out) ∷ []) = rw (le-ltb (length out) (length file) h) in
-      ends_done out _ _ (sym (by_second l (bad_room (length file) (length out) ∷ []) t e z room))
-      (record { reply_is = ap result f; left_is = g })
+-- a file whose head is put, and then the raster at the front of what follows it
+pub file_put : {head out put into : List ℕ} {end : ℕ} (raster : List ℕ) → Puts head out put 0 end
+    → length head + length raster ≤ length put → into ≡ sets (mid_of end (length put - end) put) 0 raster
+    → put_mid end (length put - end) put into ≡ sets out 0 (head ++ raster)
+file_put {put} {end} raster p room e =
+    puts_rest raster p
+    (ap (put_mid end (length put - end) put) e ∙ front_put end put raster (omega (arith, p.end_is)))

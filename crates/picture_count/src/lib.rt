@@ -15,9 +15,10 @@ fn count_byte(byte: u8, left: usize) -> u32
     ensures { (result ≡ total (tabulate (min left 8) (λ i. bit (7 - i) byte))) × (result ≤ 8) }
 {
     if 8 <= left {
-        return u8::count_ones(byte);
+        byte.count_ones()
+    } else {
+        (byte >> (8 - left)).count_ones()
     }
-    u8::count_ones(byte >> (8 - left))
 }
 
 // the dots of a row
@@ -26,12 +27,10 @@ fn count_row(raster: &[u8], row: usize, width: usize) -> u32
     requires width_in_bounds { row * row_bytes width + row_bytes width ≤ length raster.now }
     ensures { result ≡ total (tabulate width (bit_at width raster.now row)) }
 {
-    let first = row * row_bytes(width);
-    let mut count: u32 = 0;
-    let mut j: usize = 0;
-    while 8 * j < width {
-        count += count_byte(raster[first + j], width - 8 * j);
-        j += 1;
+    let bytes = row_bytes(width);
+    let mut count = 0;
+    for j in 0..bytes {
+        count += count_byte(raster[row * bytes + j], width - 8 * j);
     }
     count
 }
@@ -42,9 +41,7 @@ pub fn count_packed(size: Size, raster: &[u8], counts: &mut [u32])
     requires raster_len { (length raster.now ≡ packed_size size) × (length counts.old ≡ size.height) }
     ensures { counts.new ≡ row_counts size raster.now }
 {
-    let mut row: usize = 0;
-    while row < counts.len() {
-        counts[row] = count_row(raster, row, size.width);
-        row += 1;
+    for (row, count) in counts.iter_mut().enumerate() {
+        *count = count_row(raster, row, size.width);
     }
 }

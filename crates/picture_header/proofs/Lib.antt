@@ -1,2 +1,3 @@
 -- What the proofs of the header's reader share.
 pub mod Glyphs
+pub mod Parts

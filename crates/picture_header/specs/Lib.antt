@@ -1,2 +1,2 @@
--- What the search for the next byte outside comments shows.
-pub mod Bare
+-- What the reader of a header shows and answers.
+pub mod Read

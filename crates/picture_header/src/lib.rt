@@ -1,182 +1,140 @@
 // The header of a PBM or PGM file, read byte by byte, comments left out.
 #![tactic(auto)]
 
-ghost use Rattle.std.specs.Prelude.{false, ◌≡◌, ◌≤◌};
+ghost use Rattle.std.specs.Prelude.{false, true, [], ◌≡◌, ◌≤◌, MatchOption, IfSome};
 ghost use Rattle.model.specs.Netpbm.{is_space, ends_comment};
-ghost use Rattle.model.specs.PictureHeader.{commenting, glyphs_at, spaces_from, number_from, magic, number_next, end_next};
+ghost use Rattle.model.specs.PictureHeader.{glyphs_at, found, spaces_from, number_from, magic, number_next, end_next};
 ghost use Rattle.model.specs.PictureHeader.{most_value, pbm_header, pgm_header};
-ghost use Rattle.picture_header.specs.Bare.{Bare};
+ghost use Rattle.invariants.specs.Pictures.{header_of};
+ghost use Rattle.picture_header.specs.Read.{Next, place_of, number_of, size_found};
 
-use model::{Found, MOST_VALUE, PictureHeader};
+use model::{After, MOST_VALUE, NetpbmHeader, Size};
 use text_reader::{is_digit, with_digit};
 
+// `is_ascii_whitespace` leaves out VT
 fn is_space(b: u8) -> bool
     ensures { result ≡ is_space b }
 {
-    b == 32 || (9 <= b && b <= 13)
+    matches!(b, b' ' | b'\t'..=b'\r')
 }
 
 fn ends_comment(b: u8) -> bool
     ensures { result ≡ ends_comment b }
 {
-    b == 10 || b == 13
+    matches!(b, b'\n' | b'\r')
 }
 
-// whether what follows a byte lies in a comment
-fn is_commenting(comment: bool, b: u8) -> bool
-    ensures { result ≡ commenting comment b }
-{
-    if comment { !ends_comment(b) } else { b == 35 }
-}
-
-// the place of the next byte outside comments; past the end where there is none
-fn bare_at(s: &[u8], at: usize) -> usize
-    ensures { Bare s.now at result }
+// the next byte outside comments
+fn next_byte(s: &[u8], at: usize) -> Option<After<u8>>
+    ensures { MatchOption result (glyphs_at s.now at ≡ [])
+        (λ b. Next s.now at b.value b.at) }
 {
     let mut comment = false;
-    let mut i = at;
-    while i < s.len() {
-        let b = s[i];
-        if !comment && b != 35 {
-            return i;
+    for i in at..s.len() {
+        let value = s[i];
+        if comment {
+            comment = !ends_comment(value);
+        } else if value == b'#' {
+            comment = true;
+        } else {
+            return Some(After { value, at: i + 1 });
         }
-        comment = is_commenting(comment, b);
-        i += 1;
     }
-    i
+    None
 }
 
-// the white space from a place on
-fn skip_spaces(s: &[u8], at: usize) -> Found
-    ensures { result ≡ spaces_from false at (glyphs_at s.now at) }
+// where the white space from a place on ends
+fn skip_spaces(s: &[u8], at: usize) -> Option<usize>
+    ensures { result ≡ place_of (spaces_from false at (glyphs_at s.now at)) }
 {
-    let mut some = false;
     let mut end = at;
-    let mut next = bare_at(s, at);
-    while next < s.len() {
-        if !is_space(s[next]) {
-            return Found {
-                some: some,
-                value: 0,
-                at: end,
-            };
-        }
-        some = true;
-        end = next + 1;
-        next = bare_at(s, end);
+    // a `while`: how far each step goes is what `next_byte` finds
+    while let Some(byte) = next_byte(s, end)
+        && is_space(byte.value)
+    {
+        end = byte.at;
     }
-    Found {
-        some: some,
-        value: 0,
-        at: end,
-    }
+    (at < end).then_some(end)
 }
 
 // the digits from a place on
-fn read_number(s: &[u8], at: usize) -> Found
-    ensures { result ≡ number_from false 0 at (glyphs_at s.now at) }
+fn read_digits(s: &[u8], at: usize) -> Option<After<usize>>
+    ensures { result ≡ number_of (number_from false 0 at (glyphs_at s.now at)) }
 {
-    let mut some = false;
-    let mut value: usize = 0;
+    let mut value = 0;
     let mut end = at;
-    let mut next = bare_at(s, at);
-    while next < s.len() {
-        let b = s[next];
-        if !is_digit(b) {
-            return Found {
-                some: some,
-                value: value,
-                at: end,
-            };
-        }
-        some = true;
-        value = with_digit(MOST_VALUE, value, b);
-        end = next + 1;
-        next = bare_at(s, end);
+    // a `while`: how far each step goes is what `next_byte` finds
+    while let Some(byte) = next_byte(s, end)
+        && is_digit(byte.value)
+    {
+        value = with_digit(MOST_VALUE, value, byte.value);
+        end = byte.at;
     }
-    Found {
-        some: some,
-        value: value,
-        at: end,
-    }
+    (at < end).then_some(After { value, at: end })
 }
 
-// a number with white space before it, after what was found
-fn next_number(s: &[u8], f: Found) -> Found
-    ensures { result ≡ number_next s.now f }
+// a number with white space before it
+fn next_number(s: &[u8], at: usize) -> Option<After<usize>>
+    ensures { result ≡ number_of (number_next s.now (found true 0 at)) }
 {
-    let gap = skip_spaces(s, f.at);
-    let number = read_number(s, gap.at);
-    Found {
-        some: f.some && (gap.some && number.some),
-        value: number.value,
-        at: number.at,
-    }
+    read_digits(s, skip_spaces(s, at)?)
 }
 
-// one white space after what was found
-fn read_end(s: &[u8], f: Found) -> Found
-    ensures { result ≡ end_next s.now f }
+// one white space
+fn read_end(s: &[u8], at: usize) -> Option<usize>
+    ensures { result ≡ place_of (end_next s.now (found true 0 at)) }
 {
-    let next = bare_at(s, f.at);
-    if s.len() <= next {
-        return Found {
-            some: false,
-            value: 0,
-            at: f.at,
-        };
-    }
-    let spaced = is_space(s[next]);
-    let end = next + 1;
-    Found {
-        some: f.some && spaced,
-        value: 0,
-        at: end,
-    }
+    let byte = next_byte(s, at)?;
+    is_space(byte.value).then_some(byte.at)
 }
 
-// the magic number, two bytes
-fn read_magic(s: &[u8], kind: u8) -> Found
-    ensures { result ≡ magic s.now kind }
+// the magic number, two bytes, and the size
+fn read_size(s: &[u8], kind: u8) -> Option<After<Size>>
+    ensures value { result ≡ size_found s.now kind }
+    ensures width_le_most_value { IfSome result (λ z. (z.value.width ≤ most_value) × (z.value.height ≤ most_value)) }
 {
-    Found {
-        some: 2 <= s.len() && (s[0] == 80 && s[1] == kind),
-        value: 0,
-        at: 2,
+    if !s.starts_with(&[b'P', kind]) {
+        return None;
     }
-}
-
-// The header of a PBM.
-pub fn pbm_header(s: &[u8]) -> PictureHeader
-    ensures value { result ≡ pbm_header s.now }
-    ensures width_le_most_value { (result.width ≤ most_value) × (result.height ≤ most_value) }
-{
-    let width = next_number(s, read_magic(s, 52));
-    let height = next_number(s, width);
-    let end = read_end(s, height);
-    PictureHeader {
-        good: end.some,
+    let width = next_number(s, 2)?;
+    let height = next_number(s, width.at)?;
+    let size = Size {
         width: width.value,
         height: height.value,
+    };
+    Some(After {
+        value: size,
+        at: height.at,
+    })
+}
+
+// The header of a PBM, and the place after it.
+pub fn pbm_header(s: &[u8]) -> Option<After<NetpbmHeader>>
+    ensures value { result ≡ header_of (pbm_header s.now) }
+    ensures width_le_most_value { IfSome result (λ h.
+        (h.value.size.width ≤ most_value) × (h.value.size.height ≤ most_value)) }
+{
+    let size = read_size(s, b'4')?;
+    let at = read_end(s, size.at)?;
+    let value = NetpbmHeader {
+        size: size.value,
         maximum: 1,
-        at: end.at,
-    }
+    };
+    Some(After { value, at })
 }
 
-// The header of a PGM.
-pub fn pgm_header(s: &[u8]) -> PictureHeader
-    ensures value { result ≡ pgm_header s.now }
-    ensures width_le_most_value { (result.width ≤ most_value) × (result.height ≤ most_value) }
+// The header of a PGM, and the place after it.
+pub fn pgm_header(s: &[u8]) -> Option<After<NetpbmHeader>>
+    ensures value { result ≡ header_of (pgm_header s.now) }
+    ensures width_le_most_value { IfSome result (λ h.
+        (h.value.size.width ≤ most_value) × (h.value.size.height ≤ most_value)) }
 {
-    let width = next_number(s, read_magic(s, 53));
-    let height = next_number(s, width);
-    let maximum = next_number(s, height);
-    let end = read_end(s, maximum);
-    PictureHeader {
-        good: end.some,
-        width: width.value,
-        height: height.value,
+    let size = read_size(s, b'5')?;
+    let maximum = next_number(s, size.at)?;
+    let at = read_end(s, maximum.at)?;
+    let value = NetpbmHeader {
+        size: size.value,
         maximum: maximum.value,
-        at: end.at,
-    }
+    };
+    Some(After { value, at })
 }

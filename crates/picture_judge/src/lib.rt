@@ -1,143 +1,101 @@
-// Judging what the calls for PBM and PGM files are handed: each function answers the number of the first refusal that
-// is drawn, 0 for none.
+// Judging what the calls for PBM and PGM files are handed: each function answers the first refusal that is drawn.
 #![tactic(auto)]
 
 ghost use Rattle.std.specs.Prelude.{[], ◌∷◌, ◌++◌, ◌≡◌, ◌≤◌, length};
-ghost use Rattle.model.specs.Refusal.{first_of, outside, bad_size, bad_dot};
+ghost use Rattle.model.specs.Reason.{drawn};
+ghost use Rattle.model.specs.Refusal.{first_of, bad_size, bad_dot};
 ghost use Rattle.model.specs.PictureHeader.{most_value};
 ghost use Rattle.model.specs.PictureCalls.{bad_layout, bad_room, picture_refusals, pbm_refusals, pgm_refusals};
 ghost use Rattle.model.specs.PictureCalls.{count_rows_refusals};
+ghost use Rattle.invariants.specs.Pictures.{header_in};
 
 use judge_parts::judge_dots;
-use model::{PictureHeader, Size};
-
-// whether a width or a height is outside 1 to 256
-fn outside(n: usize) -> bool
-    ensures { result ≡ outside n }
-{
-    n == 0 || 256 < n
-}
+use model::{After, NetpbmHeader, Reason, Size};
 
 // 1
-fn judge_size(size: Size) -> u32
-    ensures { result ≡ first_of (bad_size size.width size.height ∷ []) }
+fn judge_size(size: Size) -> Result<(), Reason>
+    ensures { drawn result ≡ first_of (bad_size size.width size.height ∷ []) }
 {
-    if outside(size.width) {
-        return 1;
+    if !(1..=256).contains(&size.width) || !(1..=256).contains(&size.height) {
+        return Err(Reason::Size);
     }
-    if outside(size.height) {
-        return 1;
-    }
-    0
+    Ok(())
 }
 
 // 14, of a file of that length
-fn judge_layout(h: PictureHeader, raster: usize, file: usize) -> u32
-    ensures { result ≡ first_of (bad_layout h raster file ∷ []) }
+fn judge_layout(h: After<NetpbmHeader>, raster: usize, file: usize) -> Result<(), Reason>
+    ensures { drawn result ≡ first_of (bad_layout (header_in h) raster file ∷ []) }
 {
-    if !h.good {
-        return 14;
+    if judge_size(h.value.size).is_err()
+        || !(1..=65535).contains(&h.value.maximum)
+        || file < h.at
+        || file - h.at != raster
+    {
+        return Err(Reason::Layout);
     }
-    if outside(h.width) {
-        return 14;
-    }
-    if outside(h.height) {
-        return 14;
-    }
-    if h.maximum < 1 {
-        return 14;
-    }
-    if 65535 < h.maximum {
-        return 14;
-    }
-    if file < h.at {
-        return 14;
-    }
-    if file - h.at != raster {
-        return 14;
-    }
-    0
+    Ok(())
 }
 
 // 12
-fn judge_room(needed: usize, room: usize) -> u32
-    ensures { result ≡ first_of (bad_room needed room ∷ []) }
+pub fn judge_room(needed: usize, room: usize) -> Result<(), Reason>
+    ensures { drawn result ≡ first_of (bad_room needed room ∷ []) }
 {
     if room < needed {
-        return 12;
+        return Err(Reason::Room);
     }
-    0
+    Ok(())
 }
 
-// The whole list of reading a PBM.
-pub fn judge_pbm(h: PictureHeader, file: usize, room: usize) -> u32
-    requires { (h.width ≤ most_value) × (h.height ≤ most_value) }
-    ensures { result ≡ first_of (pbm_refusals h file room) }
+// The whole list of reading a PBM whose header was found.
+pub fn judge_pbm(h: After<NetpbmHeader>, file: usize, room: usize) -> Result<(), Reason>
+    requires { (h.value.size.width ≤ most_value) × (h.value.size.height ≤ most_value) }
+    ensures { drawn result ≡ first_of (pbm_refusals (header_in h) file room) }
 {
-    let row_bytes = (h.width + 7) / 8;
-    let layout = judge_layout(h, h.height * row_bytes, file);
-    if layout != 0 {
-        return layout;
-    }
-    judge_room(h.height * h.width, room)
+    let Size { width, height } = h.value.size;
+    judge_layout(h, height * width.div_ceil(8), file)?;
+    judge_room(height * width, room)
 }
 
-// The whole list of reading a PGM.
-pub fn judge_pgm(h: PictureHeader, file: usize, room: usize) -> u32
-    requires { (h.width ≤ most_value) × (h.height ≤ most_value) }
-    ensures { result ≡ first_of (pgm_refusals h file room) }
+// The whole list of reading a PGM whose header was found.
+pub fn judge_pgm(h: After<NetpbmHeader>, file: usize, room: usize) -> Result<(), Reason>
+    requires { (h.value.size.width ≤ most_value) × (h.value.size.height ≤ most_value) }
+    ensures { drawn result ≡ first_of (pgm_refusals (header_in h) file room) }
 {
-    let cells = h.height * h.width;
-    let layout = judge_layout(h, cells, file);
-    if layout != 0 {
-        return layout;
-    }
-    if h.maximum != 255 {
-        return 15;
+    let cells = h.value.size.height * h.value.size.width;
+    judge_layout(h, cells, file)?;
+    if h.value.maximum != 255 {
+        return Err(Reason::Maximum);
     }
     judge_room(cells, room)
 }
 
 // 1 and 5, of a picture of so many cells.
-pub fn judge_picture(size: Size, cells: usize) -> u32
-    ensures { result ≡ first_of (picture_refusals size cells) }
+pub fn judge_picture(size: Size, cells: usize) -> Result<(), Reason>
+    ensures { drawn result ≡ first_of (picture_refusals size cells) }
 {
-    let number = judge_size(size);
-    if number != 0 {
-        return number;
-    }
+    judge_size(size)?;
     if cells != size.height * size.width {
-        return 5;
+        return Err(Reason::Length);
     }
-    0
+    Ok(())
 }
 
 // 1, 5 and 7.
-pub fn judge_bits(size: Size, dots: &[u8]) -> u32
-    ensures { result ≡ first_of
-        (picture_refusals size (length dots.now) ++ (bad_dot dots.now ∷ [])) }
+pub fn judge_bits(size: Size, dots: &[u8]) -> Result<(), Reason>
+    ensures { drawn result
+        ≡ first_of (picture_refusals size (length dots.now) ++ (bad_dot dots.now ∷ [])) }
 {
-    let number = judge_picture(size, dots.len());
-    if number != 0 {
-        return number;
-    }
+    judge_picture(size, dots.len())?;
     judge_dots(dots)
 }
 
 // The whole list of counting rows.
-pub fn judge_rows(size: Size, raster: usize, counts: usize) -> u32
-    ensures { result ≡ first_of (count_rows_refusals size raster counts) }
+pub fn judge_rows(size: Size, raster: usize, counts: usize) -> Result<(), Reason>
+    ensures { drawn result ≡ first_of (count_rows_refusals size raster counts) }
 {
-    let number = judge_size(size);
-    if number != 0 {
-        return number;
+    judge_size(size)?;
+    if raster != size.height * size.width.div_ceil(8) || counts != size.height {
+        return Err(Reason::Length);
     }
-    let row_bytes = (size.width + 7) / 8;
-    if raster != size.height * row_bytes {
-        return 5;
-    }
-    if counts != size.height {
-        return 5;
-    }
-    0
+    Ok(())
 }

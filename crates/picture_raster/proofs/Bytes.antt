@@ -1,21 +1,18 @@
 -- The bytes of a row, each with so many of the row's cells left.
 --   cell_bit, word_small, byte_packed  the byte as its cells are packed, one after the other
---   byte_at                            a byte of the raster that stands in a file
 --   cell_of, cells_next                the cells of a byte, and those passed after a byte more
---   row_room                           the bytes of a row lie within those of all rows
---   negated_tabulate                   bytes negated from a place on
+--   negated_tabulate                   bytes negated
 use mathlib.Core.List.{List}
-use mathlib.Core.Path.{◌≡◌, sym, ◌∙◌, ap, ap₂}
+use mathlib.Core.Path.{◌≡◌, ◌∙◌, ap, ap₂}
 use Prim.Native.Nat.{ℕ, ◌+◌, ◌*◌, ◌-◌, ◌/◌, ◌%◌, ◌≤◌, ◌<◌, min}
 use native.Mathlib.Nat.{add_assoc, lt_of_lt_of_le}
 use native.Mathlib.Decide.{dec_lt}
 use native.Mathlib.Omega.{arith}
 use borrow.Author.Tests.{lt-ltb, le-ltb}
 use lib.Dec.{ltb}
-use lib.ListN.{length, drop, get_or, length-drop}
+use lib.ListN.{length, get_or}
 use lib.Pow.{pow_mono}
-use lib.Seq.{sets, get_or-drop}
-use Rattle.algebra.proofs.Grid.{rows_apart}
+use lib.Seq.{sets}
 use Rattle.model.specs.Basic.{pick, tabulate, bit, AtMost}
 use Rattle.model.specs.Netpbm.{row_bytes, word_from, packed_byte, bit_at, negated}
 use Rattle.model.proofs.Basic.{pick_cases, tabulate-cong, map_tabulate}
@@ -50,13 +47,6 @@ byte_packed dots row w j h =
     (tabulate-cong 8 (λ i k. ap₂ (λ t n. pick t (get_or dots n 0) 0) (ltb_left w j i h) (add_assoc (row * w) (8 * j) i)))
 
 -- ---- row by row, after the cells of byte j
--- a byte of the raster that stands in a file from a place on
-pub byte_at : (file : List ℕ) (at n j : ℕ) {from : ℕ} → from ≡ at + n
-    → get_or file (from + j) 0 ≡ get_or (drop at file) (n + j) 0
-byte_at file at n j {from} e =
-    let place : from + j ≡ at + (n + j) = omega arith in
-    ap (λ k. get_or file k 0) place ∙ sym (get_or-drop at file (n + j) 0)
-
 module _ (w : ℕ) (raster : List ℕ) (row j : ℕ) (more : 8 * j < w) where
   pub cell_of : (i : ℕ) → i < 8 → bit (7 - i) (get_or raster (row * row_bytes w + j) 0) ≡ bit_at w raster row (8 * j + i)
   unfolding bit_at
@@ -75,15 +65,7 @@ module _ (w : ℕ) (raster : List ℕ) (row j : ℕ) (more : 8 * j < w) where
       put_as next (put_part (min (w - 8 * j) 8) (put_as passed p) put
       (λ i h. ap (bit (7 - i)) e ∙ cell_of i (omega arith)))
 
--- the bytes of a row lie within those of all rows
-pub row_room : {row height bytes n : ℕ} → bytes ≡ n → row < height → row * bytes + n ≤ height * n
-row_room {row} {n} e h = omega (arith, ap (λ k. row * k) e, rows_apart n h)
-
--- ---- negated, from a place on
-pub negated_tabulate : (first : ℕ) (l : List ℕ)
-    → negated (drop first l) ≡ tabulate (length l - first) (λ k. 255 - get_or l (first + k) 0)
+-- ---- negated
+pub negated_tabulate : (l : List ℕ) → negated l ≡ tabulate (length l) (λ k. 255 - get_or l k 0)
 unfolding negated
-negated_tabulate first l =
-    map_tabulate (λ v. 255 - v) 0 (drop first l)
-    ∙ ap (λ n. tabulate n (λ k. 255 - get_or (drop first l) k 0)) (length-drop first l)
-    ∙ tabulate-cong (length l - first) (λ k h. ap (λ v. 255 - v) (get_or-drop first l k 0))
+negated_tabulate l = map_tabulate (λ v. 255 - v) 0 l

@@ -11,10 +11,9 @@ use model::Size;
 
 // how many bytes hold a row
 pub fn row_bytes(width: usize) -> usize
-    requires { width ≤ 256 }
     ensures { result ≡ row_bytes width }
 {
-    (width + 7) / 8
+    width.div_ceil(8)
 }
 
 // a cell of the row that goes on here, and 0 past its end
@@ -22,10 +21,7 @@ fn cell_or_spare(dots: &[u8], first: usize, left: usize, i: usize) -> u8
     requires { (first + left ≤ length dots.now) × AtMost 1 dots.now }
     ensures { (result ≡ pick (ltb i left) (get_or dots.now (first + i) 0) 0) × (result ≤ 1) }
 {
-    if i < left {
-        return dots[first + i];
-    }
-    0
+    if i < left { dots[first + i] } else { 0 }
 }
 
 // the next byte of a row that goes on here: the first cell in the highest bit, 0 for each spare bit
@@ -34,11 +30,9 @@ fn pack_byte(dots: &[u8], first: usize, left: usize) -> u8
     ensures { result ≡ word_from 0 (tabulate 8 (λ i.
         pick (ltb i left) (get_or dots.now (first + i) 0) 0)) }
 {
-    let mut byte: u8 = 0;
-    let mut i: usize = 0;
-    while i < 8 {
+    let mut byte = 0;
+    for i in 0..8 {
         byte = byte * 2 + cell_or_spare(dots, first, left, i);
-        i += 1;
     }
     byte
 }
@@ -52,25 +46,21 @@ fn pack_row(dots: &[u8], row: usize, width: usize, out: &mut [u8], at: usize)
         ≡ sets out.old at (tabulate (row_bytes width) (packed_byte width dots.now row)) }
 {
     let first = row * width;
-    let mut j: usize = 0;
-    while 8 * j < width {
+    for j in 0..row_bytes(width) {
         out[at + j] = pack_byte(dots, first + 8 * j, width - 8 * j);
-        j += 1;
     }
 }
 
-// Packs dots into an output from a place on.
-pub fn pack_rows(size: Size, dots: &[u8], out: &mut [u8], at: usize)
+// Packs dots into the front of an output.
+pub fn pack_rows(size: Size, dots: &[u8], out: &mut [u8])
     requires in_size { InSize size }
     requires dots_len { (length dots.now ≡ cells_in size) × AtMost 1 dots.now }
-    requires size_in_bounds { at + packed_size size ≤ length out.old }
-    ensures { out.new ≡ sets out.old at (packed size dots.now) }
+    requires size_in_bounds { packed_size size ≤ length out.old }
+    ensures { out.new ≡ sets out.old 0 (packed size dots.now) }
 {
     let bytes = row_bytes(size.width);
-    let mut row: usize = 0;
-    while row < size.height {
-        pack_row(dots, row, size.width, out, at + row * bytes);
-        row += 1;
+    for row in 0..size.height {
+        pack_row(dots, row, size.width, out, row * bytes);
     }
 }
 
@@ -79,10 +69,8 @@ fn unpack_cells(byte: u8, cells: usize, dots: &mut [u8], at: usize)
     requires { (cells ≤ 8) × (at + cells ≤ length dots.old) }
     ensures { dots.new ≡ sets dots.old at (tabulate cells (λ i. bit (7 - i) byte)) }
 {
-    let mut i: usize = 0;
-    while i < cells {
+    for i in 0..cells {
         dots[at + i] = (byte >> (7 - i)) % 2;
-        i += 1;
     }
 }
 
@@ -94,51 +82,48 @@ fn unpack_byte(byte: u8, left: usize, dots: &mut [u8], at: usize)
 {
     if left < 8 {
         unpack_cells(byte, left, dots, at);
-        return;
+    } else {
+        unpack_cells(byte, 8, dots, at);
     }
-    unpack_cells(byte, 8, dots, at);
 }
 
-// a row of the raster that stands in a file from a place on
-fn unpack_row(file: &[u8], at: usize, row: usize, width: usize, dots: &mut [u8])
+// a row of a raster
+fn unpack_row(raster: &[u8], row: usize, width: usize, dots: &mut [u8])
     requires width_bound { width ≤ 256 }
-    requires width_in_bounds { at + (row * row_bytes width + row_bytes width) ≤ length file.now }
+    requires width_in_bounds { row * row_bytes width + row_bytes width ≤ length raster.now }
     requires width_in_bounds_2 { row * width + width ≤ length dots.old }
     ensures { dots.new
-        ≡ sets dots.old (row * width) (tabulate width (bit_at width (drop at file.now) row)) }
+        ≡ sets dots.old (row * width) (tabulate width (bit_at width raster.now row)) }
 {
-    let from = at + row * row_bytes(width);
-    let to = row * width;
-    let mut j: usize = 0;
-    while 8 * j < width {
-        unpack_byte(file[from + j], width - 8 * j, dots, to + 8 * j);
-        j += 1;
+    let bytes = row_bytes(width);
+    for j in 0..bytes {
+        unpack_byte(
+            raster[row * bytes + j],
+            width - 8 * j,
+            dots,
+            row * width + 8 * j,
+        );
     }
 }
 
-// Unpacks the raster that stands in a file from a place on to its end, to the front of the dots.
-pub fn unpack_rows(size: Size, file: &[u8], at: usize, dots: &mut [u8])
+// Unpacks a raster to the front of the dots.
+pub fn unpack_rows(size: Size, raster: &[u8], dots: &mut [u8])
     requires in_size { InSize size }
-    requires file_len { length file.now ≡ at + packed_size size }
+    requires raster_len { length raster.now ≡ packed_size size }
     requires size_in_bounds { cells_in size ≤ length dots.old }
-    ensures { dots.new ≡ sets dots.old 0 (unpacked size (drop at file.now)) }
+    ensures { dots.new ≡ sets dots.old 0 (unpacked size raster.now) }
 {
-    let mut row: usize = 0;
-    while row < size.height {
-        unpack_row(file, at, row, size.width, dots);
-        row += 1;
+    for row in 0..size.height {
+        unpack_row(raster, row, size.width, dots);
     }
 }
 
-// Puts 255 less each byte, from a place on to the end, into an output from a place on.
-pub fn negate(bytes: &[u8], first: usize, out: &mut [u8], at: usize)
-    requires first_in_bounds { first ≤ length bytes.now }
-    requires first_in_bounds_2 { at + (length bytes.now - first) ≤ length out.old }
-    ensures { out.new ≡ sets out.old at (negated (drop first bytes.now)) }
+// Puts 255 less each byte into the front of an output.
+pub fn negate(bytes: &[u8], out: &mut [u8])
+    requires { length bytes.now ≤ length out.old }
+    ensures { out.new ≡ sets out.old 0 (negated bytes.now) }
 {
-    let mut i: usize = 0;
-    while i < bytes.len() - first {
-        out[at + i] = 255 - bytes[first + i];
-        i += 1;
+    for (i, byte) in bytes.iter().enumerate() {
+        out[i] = 255 - *byte;
     }
 }

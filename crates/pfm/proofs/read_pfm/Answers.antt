@@ -1,37 +1,22 @@
--- `pfm::read_pfm` meets its contract: 17 or 12, or the raster decides.
-use native.Mathlib.Omega.{arith}
-use Rattle.pfm.proofs.Outcomes.{lines_good, lines_fit, pfm_refused, pfm_looked}
+-- `pfm::read_pfm` meets its contract: lines that were found are of a size as in 1.
+use Rattle.std.proofs.Common.{◌≡◌, Some, sym, ◌∙◌, ap, subst, arith}
+use Rattle.model.specs.Netpbm.{InSize}
+use Rattle.model.specs.Pfm.{size_in}
+use Rattle.model.specs.PfmCalls.{pfm_lines}
+use Rattle.model.proofs.PfmHeaders.{lines_stand}
+use Rattle.invariants.specs.Reading.{lines_at, lines_in}
 use Rattle.pfm.proofs.read_pfm.Goals as goal
+use Rattle.pfm.proofs.read_pfm.Goals.{In_ok-lines}
 
-pub returns-then-number-ne0 : goal.returns-then-number-ne0
-returns-then-number-ne0 c =
-    let s = c in
-    let found = c in
-    let judged = c in
-    pfm_refused s.args.file.now s.args.gray.now _ found.read_lines-lines.ensures judged.judge_lines-number.ensures
-    (λ z. omega (arith, z))
+sized : (c : In_ok-lines) → InSize (size_in c.in_ok-lines.lines.value)
+sized c =
+    let some : c.read_lines.result ≡ Some c.in_ok-lines.lines = grind arith in
+    let is : pfm_lines c.args.file.now ≡ lines_at c.in_ok-lines.lines =
+    sym c.read_lines.ensures ∙ ap lines_in some in
+    subst (λ l. InSize (size_in l.header)) is (lines_stand c.args.file.now (ap (λ l. l.good) is)).in_size
 
-pub read_samples-requires : goal.read_samples-requires
-read_samples-requires c =
-    let s = c in
-    let found = c in
-    let judged = c in
-    let (fits, room) = lines_fit s.args.file.now s.args.gray.now _ found.read_lines-lines.ensures
-    judged.judge_lines-number.ensures (omega arith) in record {
-      in_size = lines_good s.args.file.now s.args.gray.now _ found.read_lines-lines.ensures fits.good;
-      file_len = (fits.exact, room);
-    }
+pub judge_lines-requires : goal.judge_lines-requires
+judge_lines-requires c = sized (goal.at.judge_lines-requires c).In_ok-lines
 
-pub returns : goal.returns
-returns c =
-    let s = c in
-    let found = c in
-    let judged = c in
-    let looked = c in
-    pfm_looked s.args.file.now s.args.gray.now _ found.read_lines-lines.ensures judged.judge_lines-number.ensures
-    (omega arith) looked.read_samples.ensures
-
-pub judge_lines-number-requires : goal.judge_lines-number-requires
-judge_lines-number-requires c =
-    let s = c in
-    lines_good s.args.file.now s.args.gray.now _ c.read_lines-lines.ensures
+pub read_samples-requires-clause-in_size : goal.read_samples-requires-clause-in_size
+read_samples-requires-clause-in_size c = sized (goal.at.read_samples-requires-clause-in_size c).In_ok-lines

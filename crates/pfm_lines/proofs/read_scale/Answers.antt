@@ -1,33 +1,23 @@
 -- `pfm_lines::read_scale` meets its contract: one scale, the other, or none.
 use mathlib.Core.Path.{◌∙◌}
 use lib.Ieee.{of_bits, neg}
-use Rattle.pfm_lines.proofs.Lines.{is_big, is_little_lem, no_scale}
+use Rattle.pfm_lines.proofs.Lines.{place_some, is_big, is_little_lem, no_scale}
 use Rattle.pfm_lines.proofs.read_scale.Goals as goal
 
-pub returns-then-big-eq0 : goal.returns-then-big-eq0
+pub returns-in_err-ok-in-Err : goal.returns-in_err-ok-in-Err
+returns-in_err-ok-in-Err c =
+    let a = c.args in
+    rw c.from_residual.ensures
+    (no_scale a.width a.height a.s.now a.at c.in-Err.field-0 c.in-Err.ensures c.read_fixed-in-Err.result
+    c.read_fixed-in-Err.ensures c.in_err-ok-in-Err.ensures.value)
+
+pub returns-in-Ok : goal.returns-in-Ok
 unfolding of_bits
-returns-then-big-eq0 c =
-    let one = c in
-    let found = c in
-    c.lines_of.ensures ∙ is_big _ _ _ _ _ one.read_fixed-big.ensures found.if-big-eq0.true
+returns-in-Ok c = is_big c.args.width c.args.height c.args.s.now c.args.at c.in-Ok.ensures
 
-pub returns-then-little-eq0 : goal.returns-then-little-eq0
+pub returns-in_ok-ok-in-Err : goal.returns-in_ok-ok-in-Err
 unfolding of_bits neg
-returns-then-little-eq0 c =
-    let one = c in
-    let other = c in
-    let minus = c in
-    let found = c in
-    c.lines_of-then-little-eq0.ensures
-    ∙ is_little_lem _ _ _ _ _ one.read_fixed-big.ensures other.if-big-eq0.false _ minus.read_fixed-little.ensures
-    found.if-little-eq0.true
-
-pub returns : goal.returns
-returns c =
-    let one = c in
-    let other = c in
-    let minus = c in
-    let none = c in
-    c.no_lines.ensures
-    ∙ no_scale _ _ _ _ _ one.read_fixed-big.ensures other.if-big-eq0.false _ minus.read_fixed-little.ensures
-    none.if-little-eq0.false
+returns-in_ok-ok-in-Err c =
+    let a = c.args in
+    is_little_lem a.width a.height a.s.now a.at c.in-Err.field-0 c.in-Err.ensures
+    (place_some c.read_fixed-in-Err.result c.in_ok-ok-in-Err.ensures.value ∙ c.read_fixed-in-Err.ensures)

@@ -1,36 +1,30 @@
--- `picture::read_pbm` meets its contract: each return is one outcome of `read_pbm_call`.
-use lib.ListN.{length}
-use Rattle.model.proofs.Pictures.{pbm_fits}
-use Rattle.picture.proofs.Outcomes.{pbm_refused, pbm_read}
+-- `picture::read_pbm` meets its contract.
+use Rattle.std.proofs.Common.{◌≡◌, Some, refl, sym, ◌∙◌, length, arith}
+use Rattle.std.proofs.lemmas.Slice.{between_to_end}
+use Rattle.model.specs.PictureHeader.{pbm_header}
+use Rattle.model.specs.PictureCalls.{read_pbm_call}
+use Rattle.model.proofs.Calls.{ends_done}
+use Rattle.invariants.specs.Pictures.{header_in}
+use Rattle.picture.proofs.Outcomes.{header_is, ends_err}
 use Rattle.picture.proofs.read_pbm.Goals as goal
+use Rattle.picture.proofs.read_pbm.Goals.{In_ok-header}
 
-pub returns-then-number-ne0 : goal.returns-then-number-ne0
-returns-then-number-ne0 c =
-    let s = c in
-    let found = c in
-    let judged = c in
-    pbm_refused s.args.file.now s.args.dots.now found.pbm_header-header.result found.pbm_header-header.ensures.value
-    judged.judge_pbm-number.ensures c.if-number-ne0.true
+header : (c : In_ok-header) → pbm_header c.args.file.now ≡ header_in c.in_ok-header.header
+header c =
+    let some : c.pbm_header.result ≡ Some c.in_ok-header.header = grind arith in
+    header_is _ _ (sym c.pbm_header.ensures.value ∙ some)
 
-pub unpack_rows-requires : goal.unpack_rows-requires
-unpack_rows-requires c =
-    let s = c in
-    let found = c in
-    let judged = c in
-    let left = c in
-    let (layout, room) = pbm_fits found.pbm_header-header.result (length s.args.file.now)
-    (length s.args.dots.now) judged.judge_pbm-number.ensures left.if-number-ne0.false in record {
-      in_size = layout.in_size;
-      file_len = layout.exact;
-      size_in_bounds = room;
-    }
+pub returns-in_err-judge_pbm : goal.returns-in_err-judge_pbm
+unfolding read_pbm_call
+returns-in_err-judge_pbm c =
+    rw (header (goal.at.returns-in_err-judge_pbm c).In_ok-header)
+    (ends_err _ _ _ _ _ c.from_residual-in_err-judge_pbm.ensures.1 c.in_err-judge_pbm.ensures)
 
 pub returns : goal.returns
+unfolding read_pbm_call
 returns c =
-    let s = c in
-    let found = c in
-    let judged = c in
-    let left = c in
-    let put = c in
-    pbm_read s.args.file.now s.args.dots.now found.pbm_header-header.result found.pbm_header-header.ensures.value
-    judged.judge_pbm-number.ensures left.if-number-ne0.false put.unpack_rows.ensures
+    let s = c.args.file.now in
+    let at = c.in_ok-header.header.at in
+    rw (header (goal.at.returns c).In_ok-header)
+    (ends_done _ _ _ (sym c.in_ok-judge_pbm.ensures)
+    (record { reply_is = refl; left_is = rw (between_to_end s at (length s) (omega arith)) at c.unpack_rows.ensures }))

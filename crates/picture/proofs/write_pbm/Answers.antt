@@ -1,74 +1,54 @@
--- `picture::write_pbm` meets its contract: each return is one outcome of `write_pbm_call`.
-use mathlib.Core.List.{[], ◌∷◌, ◌++◌}
-use mathlib.Core.Path.{sym, ◌∙◌}
-use native.Mathlib.Omega.{arith}
-use lib.ListN.{length}
-use Rattle.model.specs.Refusal.{bad_dot}
+-- `picture::write_pbm` meets its contract: 1, 5 and 7 are judged first, then 12; then the file is put.
+use Rattle.std.proofs.Common.{◌≡◌, List, length, refl, sym, ◌∙◌, ap, arith}
+use Rattle.std.proofs.lemmas.Grind.{common_steps}
+use Rattle.model.specs.Refusal.{Refusal}
 use Rattle.model.specs.Netpbm.{packed, pbm_file}
-use Rattle.model.specs.PictureCalls.{picture_refusals, write_pbm_call}
-use Rattle.model.proofs.Puts.{puts_rest}
+use Rattle.model.specs.Calls.{result}
+use Rattle.model.specs.PictureCalls.{write_pbm_refusals, write_pbm_call}
+use Rattle.model.proofs.Calls.{ends_done}
 use Rattle.model.proofs.Pictures.{bits_fit, pbm_length}
-use Rattle.picture.proofs.Outcomes.{write_refused, write_short, write_done}
+use Rattle.model.proofs.Raster.{packed_length}
+use Rattle.judge_parts.proofs.Drawn.{drawn_next}
+use Rattle.picture.proofs.Outcomes.{ends_err, has_room, file_put}
 use Rattle.picture.proofs.write_pbm.Goals as goal
+use Rattle.picture.proofs.write_pbm.Goals.{In_ok-judge_bits, After-pbm_length-length}
 
-pub returns-then-number-ne0 : goal.returns-then-number-ne0
+-- the list, and how long the file is
+abbrev list : In_ok-judge_bits → List Refusal
+list c = write_pbm_refusals c.args.size c.args.dots.now (length c.args.out.now)
+
+long : (c : After-pbm_length-length) → c.pbm_length-length.result ≡ length (pbm_file c.args.size c.args.dots.now)
+long c = c.pbm_length-length.ensures ∙ sym (pbm_length c.args.size c.args.dots.now)
+
+pub returns-in_err-judge_bits : goal.returns-in_err-judge_bits
 unfolding write_pbm_call
-returns-then-number-ne0 c =
-    let s = c in
-    let judged = c in
-    let dots = s.args.dots.now in
-    write_refused (picture_refusals s.args.size (length dots) ++ (bad_dot dots ∷ [])) tt
-    (pbm_file s.args.size dots) s.args.out.now judged.judge_bits-number.ensures c.if-number-ne0.true
+returns-in_err-judge_bits c = grind (arith, common_steps)
 
-pub pbm_length-length-requires : goal.pbm_length-length-requires
-pbm_length-length-requires c =
-    let s = c in
-    let judged = c in
-    let left = c in
-    (bits_fit s.args.size s.args.dots.now judged.judge_bits-number.ensures left.if-number-ne0.false).0
-
-pub returns-then-out-length : goal.returns-then-out-length
+pub returns-in_err-judge_room : goal.returns-in_err-judge_room
 unfolding write_pbm_call
-returns-then-out-length c =
-    let s = c in
-    let judged = c in
-    let left = c in
-    let long = c in
-    let dots = s.args.dots.now in
-    let size = pbm_length s.args.size dots in
-    write_short (picture_refusals s.args.size (length dots) ++ (bad_dot dots ∷ [])) tt (pbm_file s.args.size dots)
-    s.args.out.now judged.judge_bits-number.ensures left.if-number-ne0.false
-    (omega (arith, long.pbm_length-length.ensures, size, c.if-out-length.true))
+returns-in_err-judge_room c =
+    let at = goal.at.returns-in_err-judge_room c in
+    ends_err _ _ _ _ _ c.from_residual-in_err-judge_room.ensures.1
+    (drawn_next 3 (list at.In_ok-judge_bits) tt c.in_ok-judge_bits.ensures
+    (rw (long at.After-pbm_length-length) at c.in_err-judge_room.ensures))
 
-pub pack_rows-requires : goal.pack_rows-requires
-pack_rows-requires c =
-    let s = c in
-    let judged = c in
-    let left = c in
-    let long = c in
-    let room = c in
-    let put = c in
-    let (size, exact, bits) = bits_fit s.args.size s.args.dots.now judged.judge_bits-number.ensures
-    left.if-number-ne0.false in record {
-      in_size = size;
-      dots_len = (exact, bits);
-      size_in_bounds = omega (arith, put.put_pbm_head-raster.ensures.end_is, long.pbm_length-length.ensures, room.if-out-length.false);
-    }
+pub pack_rows-requires-clause-dots_len : goal.pack_rows-requires-clause-dots_len
+pack_rows-requires-clause-dots_len c =
+    let (_, exact, bits) = bits_fit c.args.size c.args.dots.now c.in_ok-judge_bits.ensures refl in
+    (exact, bits)
 
 pub returns : goal.returns
 unfolding write_pbm_call pbm_file
 returns c =
-    let done = c in
-    let head = c in
-    let s = c in
-    let judged = c in
-    let left = c in
-    let long = c in
-    let z = s.args.size in
-    let dots = s.args.dots.now in
-    let put = head.put_pbm_head-raster.ensures in
-    let size = pbm_length z dots in
-    write_done (picture_refusals z (length dots) ++ (bad_dot dots ∷ [])) tt (pbm_file z dots)
-    s.args.out.now judged.judge_bits-number.ensures left.if-number-ne0.false
-    (omega (arith, long.pbm_length-length.ensures, size, c.if-out-length.false)) (long.pbm_length-length.ensures ∙ sym size)
-    (puts_rest (packed z dots) put done.pack_rows.ensures)
+    let at = goal.at.returns c in
+    let dots = c.args.dots.now in
+    let same = long at.After-pbm_length-length in
+    let room = has_room c.pbm_length-length.result (length c.args.out.now) c.in_ok-judge_room.ensures in
+    ends_done _ _ _
+    (sym (drawn_next 3 (list at.In_ok-judge_bits) tt c.in_ok-judge_bits.ensures (rw same at c.in_ok-judge_room.ensures)))
+    (record {
+      reply_is = ap result same;
+      left_is =
+          file_put (packed c.args.size dots) c.put_pbm_head-raster.ensures
+          (omega (arith, room, packed_length c.args.size dots)) c.pack_rows.ensures;
+    })

@@ -1,34 +1,24 @@
--- `picture_header::skip_spaces` meets its contract. The loop's invariant: `next` is the next byte outside comments
--- after `end`, and the white space from `end` on gives what that from `at` on gives.
-use mathlib.Core.Path.{refl, sym, ◌∙◌}
-use native.Mathlib.Omega.{arith}
+-- `picture_header::skip_spaces` meets its contract.
+use Rattle.std.proofs.Common.{◌≡◌, ltb, lt-ltb, sym, ◌∙◌, arith}
+use Rattle.model.specs.PictureHeader.{glyphs_at, found, spaces_from}
 use Rattle.picture_header.proofs.Glyphs.{spaces_more, spaces_stop, spaces_past}
 use Rattle.picture_header.proofs.skip_spaces.Goals as goal
+use Rattle.picture_header.proofs.skip_spaces.Goals.{in-None-1, in-Some+else-is_space}
 
-pub loop-next-init : goal.loop-next-init
-loop-next-init c = (c.bare_at-next.ensures, refl)
-
-pub returns-then-not-is_space : goal.returns-then-not-is_space
-returns-then-not-is_space c =
-    let l = c in
-    let other = sym c.is_space.ensures ∙ c.if-not-is_space.true in
-    let (bare, same) = l.loop-next.invariant in
-    sym (spaces_stop bare _ l.loop-next-test.true other) ∙ same
-
-pub loop-next-smaller : goal.loop-next-smaller
-loop-next-smaller c =
-    let l = c in
-    omega (arith, c.bare_at-next-in-loop-next.ensures.later, l.loop-next-test.true)
-
-pub loop-next-preserved : goal.loop-next-preserved
-loop-next-preserved c =
-    let l = c in
-    let tested = c in
-    let space = sym tested.is_space.ensures ∙ c.if-not-is_space.false in
-    let (bare, same) = l.loop-next.invariant in
-    (c.bare_at-next-in-loop-next.ensures, sym (spaces_more bare _ l.loop-next-test.true space) ∙ same)
+pub loop-byte-preserved : goal.loop-byte-preserved
+loop-byte-preserved c =
+    let next = c.in-Some.ensures in
+    record {
+      later = omega (arith, next.later);
+      same =
+          rw (lt-ltb c.args.at c.in-Some.byte.at (omega (arith, next.later)))
+          (sym (spaces_more next _ (sym c.if-is_space.ensures)) ∙ c.loop-byte.invariant.same);
+    }
 
 pub returns : goal.returns
 returns c =
-    let (bare, same) = c.loop-next.invariant in
-    sym (spaces_past bare _ c.loop-next-test.false) ∙ same
+    let at = c.loop-byte.end in
+    let some = ltb c.args.at at in
+    let stop : spaces_from some at (glyphs_at c.args.s.now at) ≡ found some 0 at =
+    grind (arith, spaces_past, spaces_stop) in
+    rw (c.then_some.ensures, ← c.loop-byte.invariant.same, stop)

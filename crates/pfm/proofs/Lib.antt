@@ -1,2 +1,0 @@
--- The outcomes of the call.
-pub mod Outcomes

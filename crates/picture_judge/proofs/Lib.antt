@@ -1,2 +1,0 @@
--- What the proofs of the judges share.
-pub mod Tests

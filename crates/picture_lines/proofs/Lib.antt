@@ -1,2 +1,0 @@
--- What the proofs of the lines share.
-pub mod Lines
