@@ -5,40 +5,49 @@
 
 ghost use Rattle.std.specs.Prelude.{◌≤◌, length};
 
-use model::{Filled, Measures, Started};
+use model::{Measures, Reason, Setting};
 use std::io;
 use std::io::{Print, Write};
 use text_decimal::put_number;
 
-// what is called, with the last entry of the psf
-fn print_call<R: Print>(rt: &R, name: &str, last: u8) -> io::Result<()> {
-    print!(rt; "{name}, psf 255 255 255 255 4 0 0 0 {last}")
+// the psf with that last entry
+fn psf_to(last: u8) -> [u8; 9] {
+    [255, 255, 255, 255, 4, 0, 0, 0, last]
+}
+
+// what was called with such a psf, and whether it was taken
+fn print_answer<R: Print, T: Drop>(
+    rt: &R,
+    name: &str,
+    last: u8,
+    answer: Result<T, Reason>,
+) -> io::Result<()> {
+    print!(rt; "{name}, psf 255 255 255 255 4 0 0 0 {last}: ")?;
+    match answer {
+        Ok(_) => println!(rt; "taken"),
+        Err(reason) => println!(rt; "refused {reason}"),
+    }
 }
 
 fn autocorrelation<R: Print>(rt: &R, last: u8) -> io::Result<()> {
-    let psf = [255u8, 255, 255, 255, 4, 0, 0, 0, last];
-    let mut c = [0i32; 25];
-    print_call(rt, "autocorrelation", last)?;
-    match filter::autocorrelation(1, &psf, &mut c) {
-        Filled::Done => println!(rt; ": taken"),
-        Filled::Refused(number) => println!(rt; ": refused {number}"),
-    }
+    let answer = filter::autocorrelation(1, &psf_to(last), &mut [0; 25]);
+    print_answer(rt, "autocorrelation", last, answer)
 }
 
 fn start<R: Print>(rt: &R, last: u8) -> io::Result<()> {
-    let measures = Measures {
-        width: 1,
-        height: 1,
-        radius: 1,
-        reach: 0,
-        start: 0,
+    let setting = Setting {
+        measures: Measures {
+            width: 1,
+            height: 1,
+            radius: 1,
+            reach: 0,
+            start: 0,
+        },
+        psf: &psf_to(last),
+        gray: &[0],
     };
-    let psf = [255u8, 255, 255, 255, 4, 0, 0, 0, last];
-    print_call(rt, "start", last)?;
-    match starts::start(measures, &psf, &[0], &mut [0], &mut [0]) {
-        Started::Fresh(_) => println!(rt; ": taken"),
-        Started::Refused(number) => println!(rt; ": refused {number}"),
-    }
+    let answer = starts::start(setting, &mut [0], &mut [0]);
+    print_answer(rt, "start", last, answer)
 }
 
 // Puts a number at place 1, where every number fits, and answers the place after it.
@@ -62,15 +71,21 @@ fn main(rt: HostRuntime) -> io::Result<()> {
     autocorrelation(&rt, 1)?;
     start(&rt, 0)?;
     start(&rt, 1)?;
-    print_number(&rt, 0)?;
-    print_number(&rt, 9)?;
-    print_number(&rt, 10)?;
-    print_number(&rt, 99)?;
-    print_number(&rt, 100)?;
-    print_number(&rt, 999)?;
-    print_number(&rt, 1000)?;
-    print_number(&rt, 1001)?;
-    print_number(&rt, 999999)?;
-    print_number(&rt, 1000000)?;
-    print_number(&rt, 18446744073709551615)
+    let numbers = [
+        0,
+        9,
+        10,
+        99,
+        100,
+        999,
+        1000,
+        1001,
+        999999,
+        1000000,
+        usize::MAX,
+    ];
+    for n in numbers {
+        print_number(&rt, n)?;
+    }
+    Ok(())
 }

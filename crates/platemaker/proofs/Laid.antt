@@ -1,7 +1,6 @@
 -- How an answer is laid out: a call's outcome against what the functions answer and leave.
 --   makes, fills                         a call that ends so, its answer laid out
---   measures_sized, stats_sized, to_lay  slices that are taken have the size of measures, and of a ledger, as laying out
---                                        an answer requires
+--   to_lay                               what laying out an answer requires of it
 --   slices_refused, slices_taken         a start or a later call, one of these slices refused, or both taken
 --   count_refused, count_taken           a sheet, with a slice of not so many numbers, or of so many
 --   check_in_range                       what the check answers has measures in their fields
@@ -13,14 +12,17 @@ use lib.Dec.{eqb}
 use lib.IntN.{ℤ}
 use lib.ListN.{length}
 use Rattle.model.specs.declared.Measures.{Measures}
+use Rattle.model.specs.declared.Reason.{Reason}
 use Rattle.model.specs.declared.Stats.{Stats}
-use Rattle.model.specs.declared.Verdict.{Verdict}
+use Rattle.model.specs.FiledCalls.{Verdict}
+use Rattle.model.specs.Reason.{number_of}
 use Rattle.model.specs.Calls.{Reply, result, refused, Outcome, Ends, Buffers, buffers}
 use Rattle.model.specs.Interface.{status, Lays, Makes, Fills, measures_size, measures_in, stats_size, stats_in}
 use Rattle.model.specs.Interface.{bad_count, over_count, slice_refusal, over_slices}
 use Rattle.model.specs.Sheet.{InRange}
 use Rattle.model.specs.FiledCalls.{verdict_of, check_call}
 use Rattle.model.specs.Refusal.{bad_measures}
+use Rattle.judge_parts.proofs.Drawn.{some_number}
 use Rattle.platemaker_numbers.specs.Storable.{Holds}
 use Rattle.model.proofs.Refusal.{none}
 use Rattle.model.proofs.Calls.{ends_refused, ends_done, ends_as}
@@ -43,58 +45,44 @@ module _ {A B : Type 0} {o : Outcome A B} {reply : Reply A} {left : B} (e : Ends
   pub fills : {n : ℕ} → n ≡ status reply → Fills o n left
   fills s = record { status_is = s ∙ ap status e.reply_is; left_is = e.left_is }
 
--- slices that are taken have the size of measures, and of a ledger
-module _ (measures : List ℕ) (stats : List ℤ) {n : ℕ} (e : n ≡ slice_refusal measures stats) (z : n ≡ 0) where
-  pub measures_sized : length measures ≡ measures_size
-  unfolding slice_refusal
-  measures_sized =
-      let (exact, _)
-      = none (bad_count measures_size measures ++ bad_measures (measures_in measures) ++ bad_count stats_size stats) tt e z in
-      eqb-true (length measures) measures_size (not-false (eqb (length measures) measures_size) exact)
-
-  pub stats_sized : length stats ≡ stats_size
-  unfolding slice_refusal
-  stats_sized =
-      let (_, (_, (_, (_, (_, (exact, _))))))
-      = none (bad_count measures_size measures ++ bad_measures (measures_in measures) ++ bad_count stats_size stats) tt e z in
-      eqb-true (length stats) stats_size (not-false (eqb (length stats) stats_size) exact)
-
--- what laying out an answer requires
-pub to_lay : {A : Type 0} (P : A → Type 0) (measures : List ℕ) (stats : List ℤ) {n : ℕ} {r answer : Reply A}
-    → n ≡ slice_refusal measures stats → n ≡ 0 → r ≡ answer → Holds P answer → (length stats ≡ stats_size) × Holds P r
-to_lay P measures stats e z k h = (stats_sized measures stats e z, subst (Holds P) (sym k) h)
+-- what laying out an answer requires of it
+pub to_lay : {A : Type 0} (P : A → Type 0) {r answer : Reply A} → r ≡ answer → Holds P answer → Holds P r
+to_lay P k h = subst (Holds P) (sym k) h
 
 -- ---- a start or a later call, with measures and ledger in slices
 -- a slice is refused
 pub slices_refused : {A C : Type 0} (measures psf gray dots : List ℕ) (table stats : List ℤ) (made : Outcome A Buffers)
-    (rule : Reply A → C → C) (before : C) {n : ℕ} → n ≡ slice_refusal measures stats → (n ≡ 0 → ⊥)
+    (rule : Reply A → C → C) (before : C) (r : Reason) {n : ℕ} → number_of r ≡ slice_refusal measures stats
+    → n ≡ number_of r
     → Makes (over_slices measures psf gray dots table stats made) rule before n (buffers dots table)
     (rule (refused n 0) before)
 unfolding over_slices
-slices_refused measures psf gray dots table stats made rule before e h =
-    makes (ends_refused (buffers dots table) made (slice_refusal measures stats) e h)
+slices_refused measures psf gray dots table stats made rule before r e f =
+    makes
+    (ends_refused (buffers dots table) made (slice_refusal measures stats) (f ∙ e) (λ z. some_number r (sym f ∙ z)))
     (record { status_is = refl; behind_is = refl })
 
 -- both are taken, the call is made with what they hold, and its answer laid out
 pub slices_taken : {A C : Type 0}
     (call : Measures → (psf gray dots : List ℕ) → (table : List ℤ) → Stats → Outcome A Buffers)
-    (measures psf gray dots : List ℕ) (table stats : List ℤ) {n : ℕ} → n ≡ slice_refusal measures stats → n ≡ 0
+    (measures psf gray dots : List ℕ) (table stats : List ℤ) → 0 ≡ slice_refusal measures stats
     → {m : Measures} {s : Stats} → m ≡ measures_in measures → s ≡ stats_in stats
     → {reply : Reply A} {left : Buffers} → Ends (call m psf gray dots table s) reply left
     → {rule : Reply A → C → C} {before behind : C} {r : ℕ} → Lays reply rule before r behind
     → Makes (over_slices measures psf gray dots table stats (call (measures_in measures) psf gray dots table (stats_in stats)))
     rule before r left behind
 unfolding over_slices
-slices_taken call measures psf gray dots table stats e z em es ends laid =
+slices_taken call measures psf gray dots table stats e em es ends laid =
     makes
     (ends_done (buffers dots table) (call (measures_in measures) psf gray dots table (stats_in stats))
-    (slice_refusal measures stats) (sym e ∙ z) (rw (em, es) at ends))
+    (slice_refusal measures stats) (sym e) (rw (em, es) at ends))
     laid
 
 -- ---- a sheet, with a slice of so many numbers
 module _ {A B C D : Type 0} (n : ℕ) (l : List D) (kept : B) (o : Outcome A B) (rule : Reply A → C → C) (before : C) where
-  pub count_refused : (length l ≡ n → ⊥) → Makes (over_count n l kept o) rule before 5 kept (rule (refused 5 0) before)
-  count_refused h = makes (ends_as (not_counted n l kept o h)) (record { status_is = refl; behind_is = refl })
+  pub count_refused : (length l ≡ n → ⊥) → {k : ℕ} {behind : C} → Lays (refused 5 0) rule before k behind
+      → Makes (over_count n l kept o) rule before k kept behind
+  count_refused h laid = makes (ends_as (not_counted n l kept o h)) laid
 
   pub count_taken : length l ≡ n → {reply : Reply A} {left : B} → Ends o reply left
       → {behind : C} {r : ℕ} → Lays reply rule before r behind → Makes (over_count n l kept o) rule before r left behind

@@ -17,12 +17,14 @@ ghost use Rattle.model.specs.Interface.{start_over, toggle_over, swap_over, togg
 ghost use Rattle.model.specs.Interface.{read_behind, read_over, write_behind, write_over, check_behind, check_over};
 ghost use Rattle.model.specs.Interface.{picture_behind, pfm_behind, balance_behind, sized, version};
 
-use model::{Cell, Size};
-use platemaker_answers::{lay_balance, lay_filled, lay_reading, lay_squared_error, lay_writing};
+use model::{Cell, Reason, Setting, Size};
+use platemaker_answers::{
+    lay_balance, lay_filled, lay_reading, lay_refused, lay_value, lay_writing,
+};
 use platemaker_filed::lay_checked;
 use platemaker_ledgers::{lay_attempt, lay_converged, lay_scan, lay_start};
 use platemaker_numbers::{judge_numbers, measures_of, stats_of, version_number};
-use platemaker_pictures::{lay_pfm, lay_picture, lay_written};
+use platemaker_pictures::{lay_pfm, lay_picture};
 
 // The version of the library.
 #[unsafe(no_mangle)]
@@ -37,8 +39,7 @@ pub extern "C" fn pm_version() -> u32
 pub extern "C" fn pm_autocorrelation(radius: usize, psf: &[u8], out: &mut [i32]) -> u32
     ensures { Fills (autocorrelation_call radius psf.now out.old) result out.new }
 {
-    let answer = filter::autocorrelation(radius, psf, out);
-    lay_filled(answer)
+    lay_filled(filter::autocorrelation(radius, psf, out))
 }
 
 // The filtered error (document 01: the table).
@@ -55,8 +56,7 @@ pub extern "C" fn pm_filtered_error(
     ensures { Fills (filtered_error_call width height radius psf.now gray.now
         dots.now table.old) result table.new }
 {
-    let answer = filter::filtered_error(width, height, radius, psf, gray, dots, table);
-    lay_filled(answer)
+    lay_filled(filter::filtered_error(width, height, radius, psf, gray, dots, table))
 }
 
 // The squared error.
@@ -73,8 +73,10 @@ pub extern "C" fn pm_squared_error(
     ensures { Makes (squared_error_call width height radius psf.now gray.now
         dots.now) value_behind error.old result tt error.new }
 {
-    let answer = filter::squared_error(width, height, radius, psf, gray, dots);
-    lay_squared_error(answer, error)
+    lay_value(
+        filter::squared_error(width, height, radius, psf, gray, dots),
+        error,
+    )
 }
 
 // The tone balance.
@@ -90,12 +92,8 @@ pub extern "C" fn pm_tone_balance(
     ensures { Makes (balance_call (sized width height) gray.now dots.now) balance_behind
         (quotient.old, remainder.old) result tt (quotient.new, remainder.new) }
 {
-    let size = Size {
-        width: width,
-        height: height,
-    };
-    let answer = balance::tone_balance(size, gray, dots);
-    lay_balance(answer, quotient, remainder)
+    let size = Size { width, height };
+    lay_balance(balance::tone_balance(size, gray, dots), quotient, remainder)
 }
 
 // A start.
@@ -113,13 +111,15 @@ pub extern "C" fn pm_start(
         (buffers dots.new table.new) stats.new }
     ensures at_most { AtMost 255 gray.now }
 {
-    let number = judge_numbers(measures, stats);
-    if number != 0 {
-        return number;
+    if let Err(reason) = judge_numbers(measures, stats) {
+        return reason.into();
     }
-    let sizes = measures_of(measures);
-    let answer = starts::start(sizes, psf, gray, dots, table);
-    lay_start(answer, stats)
+    let setting = Setting {
+        measures: measures_of(measures),
+        psf,
+        gray,
+    };
+    lay_start(starts::start(setting, dots, table), stats)
 }
 
 // An attempt to toggle.
@@ -140,14 +140,16 @@ pub extern "C" fn pm_try_toggle(
         tried_behind (stats.old, change.old) result
         (buffers dots.new table.new) (stats.new, change.new) }
 {
-    let number = judge_numbers(measures, stats);
-    if number != 0 {
-        return number;
+    if let Err(reason) = judge_numbers(measures, stats) {
+        return reason.into();
     }
-    let sizes = measures_of(measures);
-    let ledger = stats_of(stats);
-    let at = Cell { row: row, col: col };
-    let answer = search::try_toggle(sizes, psf, gray, dots, table, ledger, at);
+    let setting = Setting {
+        measures: measures_of(measures),
+        psf,
+        gray,
+    };
+    let at = Cell { row, col };
+    let answer = search::try_toggle(setting, dots, table, stats_of(stats), at);
     lay_attempt(answer, stats, change)
 }
 
@@ -171,18 +173,20 @@ pub extern "C" fn pm_try_swap(
         tried_behind (stats.old, change.old) result
         (buffers dots.new table.new) (stats.new, change.new) }
 {
-    let number = judge_numbers(measures, stats);
-    if number != 0 {
-        return number;
+    if let Err(reason) = judge_numbers(measures, stats) {
+        return reason.into();
     }
-    let sizes = measures_of(measures);
-    let ledger = stats_of(stats);
-    let at = Cell { row: row, col: col };
+    let setting = Setting {
+        measures: measures_of(measures),
+        psf,
+        gray,
+    };
+    let at = Cell { row, col };
     let to = Cell {
         row: row2,
         col: col2,
     };
-    let answer = search::try_swap(sizes, psf, gray, dots, table, ledger, at, to);
+    let answer = search::try_swap(setting, dots, table, stats_of(stats), at, to);
     lay_attempt(answer, stats, change)
 }
 
@@ -203,17 +207,19 @@ pub extern "C" fn pm_toggle_scan(
         (stats.old, changes.old, trials.old) result (buffers dots.new
         table.new) (stats.new, changes.new, trials.new) }
 {
-    let number = judge_numbers(measures, stats);
-    if number != 0 {
-        return number;
+    if let Err(reason) = judge_numbers(measures, stats) {
+        return reason.into();
     }
-    let sizes = measures_of(measures);
-    let ledger = stats_of(stats);
-    let answer = search::toggle_scan(sizes, psf, gray, dots, table, ledger);
+    let setting = Setting {
+        measures: measures_of(measures),
+        psf,
+        gray,
+    };
+    let answer = search::toggle_scan(setting, dots, table, stats_of(stats));
     lay_scan(answer, stats, changes, trials)
 }
 
-// A swap scan.
+// A swap scan. Its twin, the toggle scan, stays beside it: the C interface names both.
 #[unsafe(no_mangle)]
 pub extern "C" fn pm_swap_scan(
     measures: &[usize],
@@ -230,13 +236,15 @@ pub extern "C" fn pm_swap_scan(
         (stats.old, changes.old, trials.old) result (buffers dots.new
         table.new) (stats.new, changes.new, trials.new) }
 {
-    let number = judge_numbers(measures, stats);
-    if number != 0 {
-        return number;
+    if let Err(reason) = judge_numbers(measures, stats) {
+        return reason.into();
     }
-    let sizes = measures_of(measures);
-    let ledger = stats_of(stats);
-    let answer = search::swap_scan(sizes, psf, gray, dots, table, ledger);
+    let setting = Setting {
+        measures: measures_of(measures),
+        psf,
+        gray,
+    };
+    let answer = search::swap_scan(setting, dots, table, stats_of(stats));
     lay_scan(answer, stats, changes, trials)
 }
 
@@ -256,13 +264,15 @@ pub extern "C" fn pm_converge(
         converge_behind (stats.old, scans.old) result
         (buffers dots.new table.new) (stats.new, scans.new) }
 {
-    let number = judge_numbers(measures, stats);
-    if number != 0 {
-        return number;
+    if let Err(reason) = judge_numbers(measures, stats) {
+        return reason.into();
     }
-    let sizes = measures_of(measures);
-    let ledger = stats_of(stats);
-    let answer = search::converge(sizes, psf, gray, dots, table, ledger);
+    let setting = Setting {
+        measures: measures_of(measures),
+        psf,
+        gray,
+    };
+    let answer = search::converge(setting, dots, table, stats_of(stats));
     lay_converged(answer, stats, scans)
 }
 
@@ -282,11 +292,9 @@ pub extern "C" fn pm_read_sheet(
         (measures.new, offset.new) }
 {
     if measures.len() != 5 {
-        *offset = 0;
-        return 5;
+        return lay_refused(Reason::Length.into(), offset);
     }
-    let answer = sheet::read_sheet(bytes, psf, gray, dots);
-    lay_reading(answer, measures, offset)
+    lay_reading(sheet::read_sheet(bytes, psf, gray, dots), measures, offset)
 }
 
 // Writes a sheet.
@@ -305,12 +313,14 @@ pub extern "C" fn pm_write_sheet(
         out.new (length.new, offset.new) }
 {
     if measures.len() != 5 {
-        *offset = 0;
-        return 5;
+        return lay_refused(Reason::Length.into(), offset);
     }
-    let sizes = measures_of(measures);
-    let answer = sheet::write_sheet(sizes, psf, gray, dots, out);
-    lay_writing(answer, length, offset)
+    let setting = Setting {
+        measures: measures_of(measures),
+        psf,
+        gray,
+    };
+    lay_writing(sheet::write_sheet(setting, dots, out), length, offset)
 }
 
 // Checks a filed sheet.
@@ -330,11 +340,13 @@ pub extern "C" fn pm_check_filed(
         (verdict.new, offset.new) }
 {
     if verdict.len() != 6 {
-        *offset = 0;
-        return 5;
+        return lay_refused(Reason::Length.into(), offset);
     }
-    let answer = filed::check_filed(bytes, psf, gray, dots, table);
-    lay_checked(answer, verdict, offset)
+    lay_checked(
+        filed::check_filed(bytes, psf, gray, dots, table),
+        verdict,
+        offset,
+    )
 }
 
 // Reads a PBM.
@@ -348,11 +360,10 @@ pub extern "C" fn pm_read_pbm(
     ensures { Makes (read_pbm_call file.now dots.old) picture_behind
         (width.old, height.old) result dots.new (width.new, height.new) }
 {
-    let answer = picture::read_pbm(file, dots);
-    lay_picture(answer, width, height)
+    lay_picture(picture::read_pbm(file, dots), width, height)
 }
 
-// Reads a PGM.
+// Reads a PGM. Its twin for a PBM stays beside it: the C interface names both.
 #[unsafe(no_mangle)]
 pub extern "C" fn pm_read_pgm(
     file: &[u8],
@@ -363,8 +374,7 @@ pub extern "C" fn pm_read_pgm(
     ensures { Makes (read_pgm_call file.now gray.old) picture_behind
         (width.old, height.old) result gray.new (width.new, height.new) }
 {
-    let answer = picture::read_pgm(file, gray);
-    lay_picture(answer, width, height)
+    lay_picture(picture::read_pgm(file, gray), width, height)
 }
 
 // Reads a gray PFM.
@@ -381,8 +391,7 @@ pub extern "C" fn pm_read_pfm(
         (width.old, height.old, scale.old, offset.old) result gray.new
         (width.new, height.new, scale.new, offset.new) }
 {
-    let answer = pfm::read_pfm(file, gray);
-    lay_pfm(answer, width, height, scale, offset)
+    lay_pfm(pfm::read_pfm(file, gray), width, height, scale, offset)
 }
 
 // Writes a PBM.
@@ -397,15 +406,11 @@ pub extern "C" fn pm_write_pbm(
     ensures { Makes (write_pbm_call (sized width height) dots.now out.old) value_behind
         length.old result out.new length.new }
 {
-    let size = Size {
-        width: width,
-        height: height,
-    };
-    let answer = picture::write_pbm(size, dots, out);
-    lay_written(answer, length)
+    let size = Size { width, height };
+    lay_value(picture::write_pbm(size, dots, out), length)
 }
 
-// Writes a PGM.
+// Writes a PGM. Its twin for a PBM stays beside it: the C interface names both.
 #[unsafe(no_mangle)]
 pub extern "C" fn pm_write_pgm(
     width: usize,
@@ -417,12 +422,8 @@ pub extern "C" fn pm_write_pgm(
     ensures { Makes (write_pgm_call (sized width height) gray.now out.old) value_behind
         length.old result out.new length.new }
 {
-    let size = Size {
-        width: width,
-        height: height,
-    };
-    let answer = picture::write_pgm(size, gray, out);
-    lay_written(answer, length)
+    let size = Size { width, height };
+    lay_value(picture::write_pgm(size, gray, out), length)
 }
 
 // Counts the dots of each row of a packed raster.
@@ -436,10 +437,6 @@ pub extern "C" fn pm_count_rows(
     ensures { Fills (count_rows_call (sized width height) packed.now counts.old) result
         counts.new }
 {
-    let size = Size {
-        width: width,
-        height: height,
-    };
-    let answer = picture::count_rows(size, packed, counts);
-    lay_filled(answer)
+    let size = Size { width, height };
+    lay_filled(picture::count_rows(size, packed, counts))
 }

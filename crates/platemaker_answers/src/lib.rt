@@ -3,84 +3,93 @@
 #![tactic(auto)]
 
 ghost use Rattle.std.specs.Prelude.{◌≡◌, length};
-ghost use Rattle.model.specs.Calls.{filled, valued};
-ghost use Rattle.model.specs.Balance.{balanced};
-ghost use Rattle.model.specs.SheetCalls.{reading_of, writing_of};
+ghost use Rattle.model.specs.Reason.{number_of};
+ghost use Rattle.model.specs.Calls.{reply_of, placed_reply};
 ghost use Rattle.model.specs.Interface.{status, measures_size, Lays, value_behind, read_behind, write_behind, balance_behind};
 
-use model::{Balanced, Filled, Reading, SquaredError, Writing};
+use model::{Measures, Reason, Refused, ToneBalance};
 use platemaker_numbers::store_measures;
 
 // lays the answer of a call that fills a buffer out: its status
-pub fn lay_filled(answer: Filled) -> u32
-    ensures { result ≡ status (filled answer) }
+pub fn lay_filled(answer: Result<(), Reason>) -> u32
+    ensures { result ≡ status (reply_of answer) }
 {
     match answer {
-        Filled::Done => 0,
-        Filled::Refused(number) => number,
+        Ok(()) => 0,
+        Err(unfilled) => unfilled.into(),
     }
 }
 
-// the same of the squared error, with its value
-pub fn lay_squared_error(answer: SquaredError, error: &mut i64) -> u32
-    ensures { Lays (valued answer) value_behind error.old result error.new }
+// the same of a call that answers one value, with this
+pub fn lay_value<T: Copy + Drop>(answer: Result<T, Reason>, value: &mut T) -> u32
+    ensures { Lays (reply_of answer) value_behind value.old result value.new }
 {
     match answer {
-        SquaredError::Value(value) => {
-            *error = value;
+        Ok(found) => {
+            *value = found;
             0
         }
-        SquaredError::Refused(number) => number,
+        Err(reason) => reason.into(),
     }
 }
 
 // the same of the tone balance, with its quotient and its remainder
-pub fn lay_balance(answer: Balanced, quotient: &mut i64, remainder: &mut usize) -> u32
-    ensures { Lays (balanced answer) balance_behind (quotient.old, remainder.old) result
+pub fn lay_balance(
+    answer: Result<ToneBalance, Reason>,
+    quotient: &mut i64,
+    remainder: &mut usize,
+) -> u32
+    ensures { Lays (reply_of answer) balance_behind (quotient.old, remainder.old) result
         (quotient.new, remainder.new) }
 {
     match answer {
-        Balanced::Done(balance) => {
-            let whole = balance.quotient;
-            *quotient = whole;
+        Ok(balance) => {
+            *quotient = balance.quotient;
             *remainder = balance.remainder;
             0
         }
-        Balanced::Refused(number) => number,
+        Err(refusal) => refusal.into(),
     }
 }
 
-// the same of a sheet that is read, with its measures, or the byte offset of a refusal
-pub fn lay_reading(answer: Reading, measures: &mut [usize], offset: &mut usize) -> u32
+// lays a refusal with a place out: its status, and the byte offset
+pub fn lay_refused(refused: Refused, offset: &mut usize) -> u32
+    ensures number { result ≡ number_of refused.reason }
+    ensures place { offset.new ≡ refused.at }
+{
+    *offset = refused.at;
+    refused.reason.into()
+}
+
+// lays the answer of a sheet that is read out, with its measures, or the byte offset of a refusal
+pub fn lay_reading(
+    answer: Result<Measures, Refused>,
+    measures: &mut [usize],
+    offset: &mut usize,
+) -> u32
     requires { length measures.old ≡ measures_size }
-    ensures { Lays (reading_of answer) read_behind (measures.old, offset.old) result
+    ensures { Lays (placed_reply answer) read_behind (measures.old, offset.old) result
         (measures.new, offset.new) }
 {
     match answer {
-        Reading::Done(read) => {
+        Ok(read) => {
             store_measures(measures, read);
             0
         }
-        Reading::Refused(number, place) => {
-            *offset = place;
-            number
-        }
+        Err(refused) => lay_refused(refused, offset),
     }
 }
 
 // the same of a sheet that is written, with its length, or the byte offset of a refusal
-pub fn lay_writing(answer: Writing, length: &mut usize, offset: &mut usize) -> u32
-    ensures { Lays (writing_of answer) write_behind (length.old, offset.old) result
+pub fn lay_writing(answer: Result<usize, Refused>, length: &mut usize, offset: &mut usize) -> u32
+    ensures { Lays (placed_reply answer) write_behind (length.old, offset.old) result
         (length.new, offset.new) }
 {
     match answer {
-        Writing::Done(written) => {
+        Ok(written) => {
             *length = written;
             0
         }
-        Writing::Refused(number, at) => {
-            *offset = at;
-            number
-        }
+        Err(refused) => lay_refused(refused, offset),
     }
 }

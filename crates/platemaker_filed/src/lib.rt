@@ -2,67 +2,55 @@
 // and the byte offset of a refusal.
 #![tactic(auto)]
 
-ghost use Rattle.std.specs.Prelude.{◌≡◌, pos, length};
-ghost use Rattle.model.specs.Basic.{pick};
+ghost use Rattle.std.specs.Prelude.{◌≡◌, length};
 ghost use Rattle.model.specs.Sheet.{InRange};
-ghost use Rattle.model.specs.FiledCalls.{checked_of};
+ghost use Rattle.model.specs.FiledCalls.{checked_of, resting_in, verdict_in};
 ghost use Rattle.model.specs.Interface.{Lays, verdict_size, rest_number, verdict_numbers, check_behind};
 ghost use Rattle.platemaker_numbers.specs.Storable.{Holds};
 
-use model::{Checked, Resting, Verdict};
-use sheet_read::cells;
-
-fn bit(b: bool) -> i64
-    ensures { result ≡ pick b (pos 1) (pos 0) }
-{
-    if b { 1 } else { 0 }
-}
+use model::{Reason, Refused, Verdict};
+use platemaker_answers::lay_refused;
+use sheet_read::Layout;
 
 // 1, 0, or the number of a start's refusal negated
-fn rest_number(rest: Resting) -> i64
-    ensures { result ≡ rest_number rest }
+fn rest_number(rest: Result<bool, Reason>) -> i64
+    ensures { result ≡ rest_number (resting_in rest) }
 {
     match rest {
-        Resting::Rests => 1,
-        Resting::Lowers => 0,
-        Resting::Unstarted(number) => 0 - (number as i64),
+        Ok(rests) => i64::from(rests),
+        Err(reason) => -i64::from(u32::from(reason)),
     }
 }
 
 // a verdict into six numbers
-fn store_verdict(out: &mut [i64], v: Verdict)
-    requires { (length out.old ≡ verdict_size) × InRange v.measures }
-    ensures { out.new ≡ verdict_numbers v }
+fn store_verdict(out: &mut [i64], found: Verdict)
+    requires { (length out.old ≡ verdict_size) × InRange found.measures }
+    ensures { out.new ≡ verdict_numbers (verdict_in found) }
 {
-    let filed = v.filed;
-    let squared = v.squared;
-    let agrees = bit(v.figure);
-    let fits = bit(v.ledger);
-    let rest = v.rest;
-    let rests = rest_number(rest);
-    let cells = cells(v.measures) as i64;
-    out[0] = filed;
-    out[1] = squared;
-    out[2] = agrees;
-    out[3] = fits;
-    out[4] = rests;
-    out[5] = cells;
+    let layout = Layout {
+        measures: found.measures,
+    };
+    out.copy_from_slice(&[
+        found.filed,
+        found.squared,
+        i64::from(found.figure),
+        i64::from(found.ledger),
+        rest_number(found.rest),
+        layout.cells() as i64,
+    ]);
 }
 
 // lays the answer of the check out: its status, with the verdict or the byte offset
-pub fn lay_checked(answer: Checked, verdict: &mut [i64], offset: &mut usize) -> u32
+pub fn lay_checked(answer: Result<Verdict, Refused>, verdict: &mut [i64], offset: &mut usize) -> u32
     requires { (length verdict.old ≡ verdict_size) × Holds (λ v. InRange v.measures) (checked_of answer) }
     ensures { Lays (checked_of answer) check_behind (verdict.old, offset.old) result
         (verdict.new, offset.new) }
 {
     match answer {
-        Checked::Done(found) => {
+        Ok(found) => {
             store_verdict(verdict, found);
             0
         }
-        Checked::Refused(number, at) => {
-            *offset = at;
-            number
-        }
+        Err(refused) => lay_refused(refused, offset),
     }
 }

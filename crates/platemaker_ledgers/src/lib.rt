@@ -3,24 +3,24 @@
 #![tactic(auto)]
 
 ghost use Rattle.std.specs.Prelude.{◌≡◌, length};
-ghost use Rattle.model.specs.Calls.{started, attempted, scanned, converged};
+ghost use Rattle.model.specs.Calls.{reply_of, attempted};
 ghost use Rattle.model.specs.Interface.{stats_size, Lays, stats_behind, tried_behind, scan_behind, converge_behind};
 ghost use Rattle.platemaker_numbers.specs.Storable.{Storable, Holds, TriedStorable};
 
-use model::{Attempt, Converged, Scanned, Started};
+use model::{Attempt, ConvergeResult, Reason, ScanResult, Stats};
 use platemaker_numbers::store_stats;
 
 // lays the answer of a start out: its status, and the ledger into its slice
-pub fn lay_start(answer: Started, stats: &mut [i64]) -> u32
-    requires { (length stats.old ≡ stats_size) × Holds Storable (started answer) }
-    ensures { Lays (started answer) stats_behind stats.old result stats.new }
+pub fn lay_start(answer: Result<Stats, Reason>, stats: &mut [i64]) -> u32
+    requires { (length stats.old ≡ stats_size) × Holds Storable (reply_of answer) }
+    ensures { Lays (reply_of answer) stats_behind stats.old result stats.new }
 {
     match answer {
-        Started::Fresh(new) => {
+        Ok(new) => {
             store_stats(stats, new);
             0
         }
-        Started::Refused(number) => number,
+        Err(unstarted) => unstarted.into(),
     }
 }
 
@@ -40,40 +40,49 @@ pub fn lay_attempt(answer: Attempt, stats: &mut [i64], change: &mut i64) -> u32
             *change = rise;
             0
         }
-        Attempt::Refused(number) => number,
+        Attempt::Refused(reason) => reason.into(),
     }
 }
 
 // the same of a scan, with its accepted changes and its trials
-pub fn lay_scan(answer: Scanned, stats: &mut [i64], changes: &mut u64, trials: &mut u64) -> u32
-    requires { (length stats.old ≡ stats_size) × Holds (λ done. Storable done.stats) (scanned answer) }
-    ensures { Lays (scanned answer) scan_behind
+pub fn lay_scan(
+    answer: Result<ScanResult, Reason>,
+    stats: &mut [i64],
+    changes: &mut u64,
+    trials: &mut u64,
+) -> u32
+    requires { (length stats.old ≡ stats_size) × Holds (λ done. Storable done.stats) (reply_of answer) }
+    ensures { Lays (reply_of answer) scan_behind
         (stats.old, changes.old, trials.old) result
         (stats.new, changes.new, trials.new) }
 {
     match answer {
-        Scanned::Done(done) => {
+        Ok(done) => {
             store_stats(stats, done.stats);
             *changes = done.changes;
             *trials = done.trials;
             0
         }
-        Scanned::Refused(number) => number,
+        Err(reason) => reason.into(),
     }
 }
 
 // the same of a settling, with its scans
-pub fn lay_converged(answer: Converged, stats: &mut [i64], scans: &mut u64) -> u32
-    requires { (length stats.old ≡ stats_size) × Holds (λ done. Storable done.stats) (converged answer) }
-    ensures { Lays (converged answer) converge_behind (stats.old, scans.old) result
+pub fn lay_converged(
+    answer: Result<ConvergeResult, Reason>,
+    stats: &mut [i64],
+    scans: &mut u64,
+) -> u32
+    requires { (length stats.old ≡ stats_size) × Holds (λ done. Storable done.stats) (reply_of answer) }
+    ensures { Lays (reply_of answer) converge_behind (stats.old, scans.old) result
         (stats.new, scans.new) }
 {
     match answer {
-        Converged::Done(done) => {
+        Ok(done) => {
             store_stats(stats, done.stats);
             *scans = done.scans;
             0
         }
-        Converged::Refused(number) => number,
+        Err(reason) => reason.into(),
     }
 }

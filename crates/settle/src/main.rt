@@ -14,6 +14,7 @@ fn read_input<R: Read>(reader: &mut R, buf: &mut [u8]) -> io::Result<usize>
     ensures same_length { length buf.new ≡ length buf.old }
 {
     let mut done: usize = 0;
+    // a loop: `read_to_end` needs memory, and `read_exact` takes no shorter input
     while done < buf.len() {
         let n = reader.read(&mut buf[done..])?;
         if n == 0 {

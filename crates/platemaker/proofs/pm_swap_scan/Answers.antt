@@ -1,27 +1,18 @@
 -- `platemaker::pm_swap_scan` meets its contract: a slice is refused, or the call is made and its answer laid out.
 use Rattle.model.specs.Calls.{swap_scan_call}
 use Rattle.platemaker.proofs.Ledgers.{swap_scan_storable}
-use Rattle.platemaker.proofs.Laid.{measures_sized, stats_sized, to_lay, slices_refused, slices_taken}
+use Rattle.platemaker.proofs.Laid.{to_lay, slices_refused, slices_taken}
 use Rattle.platemaker.proofs.pm_swap_scan.Goals as goal
 
-pub returns-then-number-ne0 : goal.returns-then-number-ne0
-returns-then-number-ne0 c =
-    slices_refused _ _ _ _ _ _ _ _ _ c.judge_numbers-number.ensures c.if-number-ne0.true
-
-pub measures_of-sizes-requires : goal.measures_of-sizes-requires
-measures_of-sizes-requires c =
-    measures_sized _ _ c.judge_numbers-number.ensures c.if-number-ne0.false
-
-pub stats_of-ledger-requires : goal.stats_of-ledger-requires
-stats_of-ledger-requires c =
-    stats_sized _ _ c.judge_numbers-number.ensures c.if-number-ne0.false
+pub returns-in-Err : goal.returns-in-Err
+returns-in-Err c =
+    slices_refused _ _ _ _ _ _ _ _ _ c.in-Err.reason c.in-Err.ensures.drawn c.into.ensures
 
 pub lay_scan-requires : goal.lay_scan-requires
 lay_scan-requires c =
-    to_lay _ _ _ c.judge_numbers-number.ensures c.if-number-ne0.false c.swap_scan-answer.ensures.reply_is
-    (swap_scan_storable _ _ _ _ _ _)
+    (c.in_default.ensures.sized.1, to_lay _ c.swap_scan-answer.ensures.reply_is (swap_scan_storable _ _ _ _ _ _))
 
 pub returns : goal.returns
 returns c =
-    slices_taken swap_scan_call _ _ _ _ _ _ c.judge_numbers-number.ensures c.if-number-ne0.false
-    c.measures_of-sizes.ensures c.stats_of-ledger.ensures c.swap_scan-answer.ensures c.lay_scan.ensures
+    slices_taken swap_scan_call _ _ _ _ _ _ c.in_default.ensures.drawn
+    c.measures_of.ensures c.stats_of.ensures c.swap_scan-answer.ensures c.lay_scan.ensures

@@ -1,27 +1,18 @@
 -- `platemaker::pm_try_toggle` meets its contract: a slice is refused, or the call is made and its answer laid out.
 use Rattle.model.specs.Calls.{toggle_call}
 use Rattle.platemaker.proofs.Ledgers.{toggle_storable}
-use Rattle.platemaker.proofs.Laid.{measures_sized, stats_sized, to_lay, slices_refused, slices_taken}
+use Rattle.platemaker.proofs.Laid.{to_lay, slices_refused, slices_taken}
 use Rattle.platemaker.proofs.pm_try_toggle.Goals as goal
 
-pub returns-then-number-ne0 : goal.returns-then-number-ne0
-returns-then-number-ne0 c =
-    slices_refused _ _ _ _ _ _ _ _ _ c.judge_numbers-number.ensures c.if-number-ne0.true
-
-pub measures_of-sizes-requires : goal.measures_of-sizes-requires
-measures_of-sizes-requires c =
-    measures_sized _ _ c.judge_numbers-number.ensures c.if-number-ne0.false
-
-pub stats_of-ledger-requires : goal.stats_of-ledger-requires
-stats_of-ledger-requires c =
-    stats_sized _ _ c.judge_numbers-number.ensures c.if-number-ne0.false
+pub returns-in-Err : goal.returns-in-Err
+returns-in-Err c =
+    slices_refused _ _ _ _ _ _ _ _ _ c.in-Err.reason c.in-Err.ensures.drawn c.into.ensures
 
 pub lay_attempt-requires : goal.lay_attempt-requires
 lay_attempt-requires c =
-    to_lay _ _ _ c.judge_numbers-number.ensures c.if-number-ne0.false c.try_toggle-answer.ensures.reply_is
-    (toggle_storable _ _ _ _ _ _ _ _)
+    (c.in_default.ensures.sized.1, to_lay _ c.try_toggle-answer.ensures.reply_is (toggle_storable _ _ _ _ _ _ _ _))
 
 pub returns : goal.returns
 returns c =
-    slices_taken (λ m p g d t s. toggle_call m p g d t s c.args.row c.args.col) _ _ _ _ _ _ c.judge_numbers-number.ensures c.if-number-ne0.false
-    c.measures_of-sizes.ensures c.stats_of-ledger.ensures c.try_toggle-answer.ensures c.lay_attempt.ensures
+    slices_taken (λ m p g d t s. toggle_call m p g d t s c.args.row c.args.col) _ _ _ _ _ _ c.in_default.ensures.drawn
+    c.measures_of.ensures c.stats_of.ensures c.try_toggle-answer.ensures c.lay_attempt.ensures

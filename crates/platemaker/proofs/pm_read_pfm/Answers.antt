@@ -1,7 +1,0 @@
--- `platemaker::pm_read_pfm` meets its contract: the answer is laid out, and the slice is as it is left.
-use Rattle.platemaker.proofs.Laid.{makes}
-use Rattle.platemaker.proofs.pm_read_pfm.Goals as goal
-
-pub returns : goal.returns
-returns c =
-    makes c.read_pfm-answer.ensures c.lay_pfm.ensures

@@ -1,2 +1,0 @@
--- A law that the proofs of this crate use.
-pub mod Stored

@@ -1,2 +1,0 @@
--- Laws that the proofs of this crate share.
-pub mod Slices
