@@ -29,7 +29,9 @@ impl Cells<'_> {
         requires { (n < length self.gray.now) × (n < length self.dots.now) }
         ensures { result ≡ mark self.entry.gray.now self.entry.dots.now self.entry.dot n }
     {
-        u8::from(!is_locked(self.gray[n]) && self.dots[n] == self.dot)
+        // both bytes are read first, so that a row is marked many cells at a time
+        let (gray, here) = (self.gray[n], self.dots[n]);
+        u8::from(!is_locked(gray) && here == self.dot)
     }
 }
 

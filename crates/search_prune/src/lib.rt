@@ -131,12 +131,12 @@ pub fn may_lower(
     let dot = dots[m];
     let value = table[m];
     for y in at.row.saturating_sub(reach)..height.min(at.row + reach + 1) {
-        let Some(from) = (y * width + at.col).checked_sub(reach) else {
-            return true;
-        };
-        if table.len() < from + side {
+        let place = y * width + at.col;
+        // an `if`, since `checked_sub` costs more in this loop
+        if place < reach || table.len() < place - reach + side {
             return true;
         }
+        let from = place - reach;
         let first = (y + reach - at.row) * side;
         let worths = &grid[first..first + side];
         if row_lowers(dot, value, dots, table, m, from, worths) {

@@ -22,7 +22,6 @@ slice_bounds-worths-end c =
 pub loop-y-preserved : goal.loop-y-preserved
 loop-y-preserved c =
     let s = (goal.at.loop-y-preserved c).Start in
-    let from = c.in-Some.ensures in
-    rows_more c.loop-y.y (omega arith) (omega (arith, from)) c.loop-y.invariant
+    rows_more c.loop-y.y (omega arith) (omega arith) c.loop-y.invariant
     (λ i h. run_part c.args.grid.now _ _ (within s c.loop-y.y (omega arith))
-    (rw (c.row_length-side.ensures, c.index-m.ensures, from.1) at (c.row_lowers.ensures c.if-row_lowers.false)) i (omega arith))
+    (rw (c.row_length-side.ensures, c.index-m.ensures) at (c.row_lowers.ensures c.if-row_lowers.false)) i (omega arith))
