@@ -10,7 +10,8 @@ use sheet_write::put_row;
 use slices::put_bytes;
 use text_decimal::digit_count;
 
-// the lines of the magic number and of width and height
+// the lines of the magic number and of width and height; laid into its callers, which so need less stack
+#[inline(always)]
 fn put_lines(out: &mut [u8], magic: &[u8], size: Size) -> usize
     requires { length (magic.now ++ size_line size) ≤ length out.old }
     ensures { Puts (magic.now ++ size_line size) out.old out.new 0 result }

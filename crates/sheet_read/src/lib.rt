@@ -61,7 +61,8 @@ impl Layout {
     }
 }
 
-// line 1
+// line 1; laid into `read_head`, and that into its callers, which so need less stack
+#[inline(always)]
 fn read_names(s: &[u8]) -> Result<usize, Refused>
     ensures { place_in result ≡ fixed_at names s.now 0 }
 {
@@ -73,6 +74,7 @@ fn read_names(s: &[u8]) -> Result<usize, Refused>
 }
 
 // Lines 1 and 2, the kind of start from the least allowed on.
+#[inline(always)]
 #[tactic(auto, unfolding(model::specs::Format::head_by, model::specs::Format::head_from))]
 pub fn read_head(s: &[u8], least: usize) -> Result<After<Layout>, Refused>
     ensures { let h = head_by (head_from least) s.now in
