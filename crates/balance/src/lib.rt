@@ -23,15 +23,27 @@ fn judge_balance(size: Size, gray: usize, dots: &[u8]) -> Result<(), Reason>
 
 // what the dots are worth less the total of gray, divided by the cells down to the next whole number
 fn divide(worth: usize, total: usize, cells: usize) -> ToneBalance
-    requires { (worth ≤ black * most_cells) × (total ≤ black * most_cells) × (0 < cells) × (cells ≤ most_cells) }
+    requires { (worth ≤ black * most_cells) × (total ≤ black * most_cells) × (0 < cells) }
     ensures { result ≡ divided (pos worth -ℤ pos total) cells }
 {
-    let difference = worth as i64 - total as i64;
-    let quotient = difference.div_euclid(cells as i64);
-    let remainder = difference.rem_euclid(cells as i64) as usize;
-    ToneBalance {
-        quotient,
-        remainder,
+    let distance = worth.abs_diff(total);
+    let whole = distance / cells;
+    let rest = distance % cells;
+    if total <= worth {
+        ToneBalance {
+            quotient: whole as i64,
+            remainder: rest,
+        }
+    } else if rest == 0 {
+        ToneBalance {
+            quotient: -(whole as i64),
+            remainder: 0,
+        }
+    } else {
+        ToneBalance {
+            quotient: -((whole + 1) as i64),
+            remainder: cells - rest,
+        }
     }
 }
 

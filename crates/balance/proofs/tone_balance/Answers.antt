@@ -5,7 +5,7 @@ use Rattle.model.specs.Calls.{result}
 use Rattle.model.specs.Balance.{balance_call}
 use Rattle.model.proofs.Balance.{some_cells}
 use Rattle.model.proofs.Calls.{is_done}
-use Rattle.balance.proofs.Division.{fits, few, dots_few, gray_few, by_sums}
+use Rattle.balance.proofs.Division.{fits, dots_few, gray_few, by_sums}
 use Rattle.balance.proofs.tone_balance.Goals as goal
 
 pub returns : goal.returns
@@ -26,9 +26,10 @@ divide-requires c =
     let a = c.args in
     let passed = c.in_ok-judge_balance.ensures in
     let bytes : AtMost 255 a.gray.now = record { each = λ i. omega (arith, c.type_inv.gray i) } in
-    let size = (fits a.size a.gray.now a.dots.now passed).0 in (
-      omega (arith, dots_few a.size a.gray.now a.dots.now passed, c.sum-worth.ensures),
-      omega (arith, gray_few a.size a.gray.now a.dots.now passed bytes, c.sum.ensures),
-      omega (arith, some_cells a.size size),
-      few a.size a.gray.now a.dots.now passed,
+    let size = (fits a.size a.gray.now a.dots.now passed).0 in
+    let dots = dots_few a.size a.gray.now a.dots.now passed in
+    let gray = gray_few a.size a.gray.now a.dots.now passed bytes in (
+      omega (arith, dots, gray, c.sum-worth.ensures, c.sum.ensures),
+      omega (arith, dots, gray, c.sum-worth.ensures, c.sum.ensures),
+      omega (arith, some_cells a.size size, size.wide.0),
     )
