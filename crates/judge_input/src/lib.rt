@@ -13,7 +13,7 @@ use judge_parts::{
 use model::{Reason, Setting};
 
 // 1 to 6, of a call that is handed all five measures, with dots and a table of these lengths
-fn judge_handed(setting: Setting, dots: usize, table: usize) -> Result<(), Reason>
+pub fn judge_handed(setting: Setting, dots: usize, table: usize) -> Result<(), Reason>
     ensures { drawn result ≡ first_of
         (handed setting.entry.measures setting.entry.psf.now (length setting.entry.gray.now ∷ dots ∷ table ∷ [])) }
 {
