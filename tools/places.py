@@ -160,7 +160,7 @@ def main():
 
     # 7
     show("7", "a `match` on the number of a kind, or a table of functions",
-         (f.place for f in every for _ in re.findall(r"\bmatch \w*(?:kind|start)\w* \{", f.body)))
+         (f.place for f in every for _ in re.findall(r"\bmatch [\w.]*(?:kind|start)\w* \{", f.body)))
 
     # 8
     answers = sorted(ROOT.glob("crates/*/proofs/**/Answers.antt"))
