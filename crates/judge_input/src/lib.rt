@@ -2,7 +2,7 @@
 // the first that is drawn.
 #![tactic(auto)]
 
-ghost use Rattle.std.specs.Prelude.{[], ◌∷◌, ◌≡◌, length};
+ghost use Rattle.std.specs.Prelude.{[], ◌∷◌, ◌≡◌};
 ghost use Rattle.model.specs.Reason.{drawn};
 ghost use Rattle.model.specs.Refusal.{first_of, handed, input_refusals};
 ghost use Rattle.model.specs.Refusal.{autocorrelation_refusal, halftone_refusal, start_refusal, write_refusal};
@@ -10,17 +10,21 @@ ghost use Rattle.model.specs.Refusal.{autocorrelation_refusal, halftone_refusal,
 use judge_parts::{
     judge_all_measures, judge_dots, judge_lengths, judge_locks, judge_measures, judge_slices,
 };
-use model::{Reason, Setting};
+use model::{Measures, Reason, Setting};
 
-// 1 to 6, of a call that is handed all five measures, with dots and a table of these lengths
-pub fn judge_handed(setting: Setting, dots: usize, table: usize) -> Result<(), Reason>
-    ensures { drawn result ≡ first_of
-        (handed setting.entry.measures setting.entry.psf.now (length setting.entry.gray.now ∷ dots ∷ table ∷ [])) }
+// 1 to 6, of a call that is handed all five measures
+pub fn judge_handed(
+    measures: Measures,
+    psf: &[u8],
+    gray: usize,
+    dots: usize,
+    table: usize,
+) -> Result<(), Reason>
+    ensures { drawn result ≡ first_of (handed measures psf.now (gray ∷ dots ∷ table ∷ [])) }
 {
-    let m = setting.measures;
-    judge_all_measures(m)?;
-    let gray = setting.gray.len();
-    judge_slices(m.radius, setting.psf, m.height * m.width, gray, dots, table)
+    judge_all_measures(measures)?;
+    let cells = measures.height * measures.width;
+    judge_slices(measures.radius, psf, cells, gray, dots, table)
 }
 
 // 1 to 7 and 16, of a call that is handed a table of that length and a ledger
@@ -28,9 +32,10 @@ pub fn judge_later(setting: Setting, dots: &[u8], table: usize) -> Result<(), Re
     ensures { drawn result ≡ first_of
         (input_refusals setting.entry.measures setting.entry.psf.now setting.entry.gray.now dots.now table) }
 {
-    judge_handed(setting, dots.len(), table)?;
+    let gray = setting.gray;
+    judge_handed(setting.measures, setting.psf, gray.len(), dots.len(), table)?;
     judge_dots(dots)?;
-    judge_locks(setting.gray, dots)
+    judge_locks(gray, dots)
 }
 
 // the whole list of the filtered error, handed a table of that length
@@ -73,7 +78,8 @@ pub fn judge_start(setting: Setting, dots: &[u8], table: usize) -> Result<(), Re
     if setting.measures.start == 2 {
         return judge_later(setting, dots, table);
     }
-    judge_handed(setting, dots.len(), table)
+    let gray = setting.gray.len();
+    judge_handed(setting.measures, setting.psf, gray, dots.len(), table)
 }
 
 // the whole list of the writer of a sheet
