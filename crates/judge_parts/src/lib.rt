@@ -1,4 +1,4 @@
-// Judging what a call is handed, one refusal or two at a time: each function answers the first that is drawn.
+// Judging what a call is handed, one refusal or two at a time: each judge answers the first that is drawn.
 #![tactic(auto)]
 
 ghost use Rattle.std.specs.Prelude.{◌&&◌, not, List, [], ◌∷◌, ◌≡◌, ℕ, ◌*◌, ◌≤◌, eqb, length};

@@ -1,4 +1,4 @@
-// The public types of the plate maker. What they mean, and the promises, are in specs/.
+// The public types of the plate maker, and the number of a reason. What they mean, and the promises, are in specs/.
 #![tactic(auto)]
 
 ghost use Rattle.std.specs.Prelude.{◌≡◌};

@@ -1,4 +1,4 @@
--- The laws of words and floats that the code rests on.
+-- The laws of samples and floats that the code rests on.
 pub mod Exact
 pub mod Rounded
 pub mod Shades

@@ -2,6 +2,8 @@
 --   prints_as, prints_on      the same text in other words; of what a call answered and left
 --   prints_whole              with the part of the output that is taken
 --   sheet_most                a sheet is at most 33,024 bytes long
+--   front_bytes               the front of a slice of bytes holds numbers up to 255
+--   of_blank                  what is printed of the front of a table of blank cells
 --   read_refused, read_done   of what reading answered and left
 use mathlib.Core.List.{List, [], ◌∷◌}
 use mathlib.Core.Path.{◌≡◌, sym, ◌∙◌, ap, ap₂}

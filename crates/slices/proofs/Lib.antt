@@ -1,3 +1,3 @@
--- What the proofs of loops over bytes share, and those of callers that lend a front twice.
+-- What the proof of the sum of bytes cites, and those of callers that lend a front twice.
 pub mod Bytes
 pub mod Fronts

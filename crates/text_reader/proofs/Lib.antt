@@ -1,2 +1,2 @@
--- What the proofs of the reader share.
+-- What the proof of the reader's words cites.
 pub mod Items
