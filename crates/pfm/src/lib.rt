@@ -44,7 +44,6 @@ fn read_samples(lines: After<PfmHeader>, file: &[u8], gray: &mut [u8]) -> Result
 pub fn read_pfm(file: &[u8], gray: &mut [u8]) -> Result<PfmHeader, Refused>
     ensures { Ends (read_pfm_call file.now gray.old) (placed_reply result) gray.new }
 {
-    let lines = read_lines(file).ok_or(Reason::Pfm)?;
-    judge_lines(lines, file.len(), gray.len())?;
+    let lines = judge_lines(read_lines(file), file.len(), gray.len())?;
     read_samples(lines, file, gray)
 }

@@ -1,13 +1,13 @@
 // The lines of a PFM, read as those of a sheet, and what they and the lengths are refused for.
 #![tactic(auto)]
 
-ghost use Rattle.std.specs.Prelude.{◌≡◌};
+ghost use Rattle.std.specs.Prelude.{◌≡◌, Some, IfSome, MatchResult};
 ghost use Rattle.model.specs.Netpbm.{InSize};
 ghost use Rattle.model.specs.Pfm.{size_in};
 ghost use Rattle.model.specs.PfmCalls.{scale_after, pfm_lines, pfm_refusals};
-ghost use Rattle.model.specs.Reason.{drawn};
+ghost use Rattle.model.specs.Reason.{number_of};
 ghost use Rattle.model.specs.Refusal.{first_of};
-ghost use Rattle.invariants.specs.Reading.{lines_at, lines_in};
+ghost use Rattle.invariants.specs.Reading.{lines_in};
 
 use model::{After, PfmHeader, Reason};
 use sheet_fields::{read_field, read_fixed};
@@ -39,17 +39,23 @@ pub fn read_lines(s: &[u8]) -> Option<After<PfmHeader>>
     read_scale(s, height.at, width.value, height.value)
 }
 
-// 17 and 12, of a file and a buffer of these lengths.
-pub fn judge_lines(lines: After<PfmHeader>, file: usize, room: usize) -> Result<(), Reason>
-    requires { InSize (size_in lines.value) }
-    ensures { drawn result ≡ first_of (pfm_refusals (lines_at lines) file room) }
+// 17 and 12, of a file and a buffer of these lengths: the lines that were found, where nothing is refused.
+pub fn judge_lines(
+    lines: Option<After<PfmHeader>>,
+    file: usize,
+    room: usize,
+) -> Result<After<PfmHeader>, Reason>
+    requires { IfSome lines (λ l. InSize (size_in l.value)) }
+    ensures { let number = first_of (pfm_refusals (lines_in lines) file room) in
+        MatchResult result (λ l. (number ≡ 0) × (lines ≡ Some l)) (λ r. number_of r ≡ number) }
 {
-    let cells = lines.value.height * lines.value.width;
-    if file.checked_sub(lines.at) != Some(4 * cells) {
+    let found = lines.ok_or(Reason::Pfm)?;
+    let cells = found.value.height * found.value.width;
+    if file.checked_sub(found.at) != Some(4 * cells) {
         return Err(Reason::Pfm);
     }
     if room < cells {
         return Err(Reason::Room);
     }
-    Ok(())
+    Ok(found)
 }

@@ -1,5 +1,7 @@
 -- The outcomes of the calls.
 --   header_is   the header that was found, as the definitions have it
+--   pbm_drawn   what a judge draws of what was found is drawn of the header; of a PBM
+--   pgm_drawn   the same of a PGM
 --   ends_err    a call that a judge refuses
 --   has_room    a buffer that is long enough
 --   file_put    a file put, its head and then its raster
@@ -9,7 +11,7 @@ use native.Mathlib.Nat.{zero-add}
 use borrow.Rule.Slice.PartMut.{put_mid, mid_of}
 use borrow.Author.Tests.{ltb-false}
 use lib.Seq.{sets, drop-drop}
-use Rattle.std.specs.Prelude.{Result}
+use Rattle.std.specs.Prelude.{Result, Option}
 use Rattle.std.specs.Result.{IsErrAnd}
 use Rattle.std.proofs.lemmas.Result.{err_from_is_err_and}
 use Rattle.std.proofs.lemmas.Option.{same_Some, none-some}
@@ -24,11 +26,12 @@ use Rattle.model.specs.Reason.{number_of}
 use Rattle.model.specs.Calls.{reply_of, Outcome, Ends, unless}
 use Rattle.model.specs.Text.{Puts}
 use Rattle.model.specs.Refusal.{first_of}
-use Rattle.model.specs.PictureCalls.{bad_room}
+use Rattle.model.specs.PictureCalls.{bad_room, pbm_refusals, pgm_refusals}
 use Rattle.model.proofs.Calls.{ends_refused}
 use Rattle.model.proofs.Puts.{puts_rest}
 use Rattle.model.proofs.Refusal.{none}
 use Rattle.invariants.specs.Pictures.{header_in, header_of}
+use Rattle.picture_judge.specs.Found.{header_found}
 use Rattle.judge_parts.proofs.Drawn.{some_number}
 
 pub header_is : (h : PictureHeader) (x : After NetpbmHeader) → header_of h ≡ Some x → h ≡ header_in x
@@ -37,6 +40,24 @@ header_is h x e = go h.good refl
     go : (b : Bool) → h.good ≡ b → h ≡ header_in x
     go true good = rw (← same_Some _ x (rw good at e), ← good)
     go false good = absurd (none-some x (rw good at e))
+
+-- where there is none, 14 is drawn of both
+module _ (o : Option (After NetpbmHeader)) (h : PictureHeader) (e : o ≡ header_of h) (file room : ℕ) where
+  pub pbm_drawn : first_of (pbm_refusals (header_found o) file room) ≡ first_of (pbm_refusals h file room)
+  pbm_drawn = go h.good refl
+    where
+      go : (b : Bool) → h.good ≡ b
+          → first_of (pbm_refusals (header_found o) file room) ≡ first_of (pbm_refusals h file room)
+      go true good = rw (e, good) refl
+      go false good = rw (e, good) refl
+
+  pub pgm_drawn : first_of (pgm_refusals (header_found o) file room) ≡ first_of (pgm_refusals h file room)
+  pgm_drawn = go h.good refl
+    where
+      go : (b : Bool) → h.good ≡ b
+          → first_of (pgm_refusals (header_found o) file room) ≡ first_of (pgm_refusals h file room)
+      go true good = rw (e, good) refl
+      go false good = rw (e, good) refl
 
 pub ends_err : {A B : Type 0} (b : B) (o : Outcome A B) (n : ℕ) (q : Result A Reason) (r : Reason) → IsErrAnd q (λ a. a ≡ r)
     → number_of r ≡ n → Ends (unless n b o) (reply_of q) b

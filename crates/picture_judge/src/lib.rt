@@ -1,13 +1,14 @@
 // Judging what the calls for PBM and PGM files are handed: each function answers the first refusal that is drawn.
 #![tactic(auto)]
 
-ghost use Rattle.std.specs.Prelude.{[], ◌∷◌, ◌++◌, ◌≡◌, ◌≤◌, length};
-ghost use Rattle.model.specs.Reason.{drawn};
+ghost use Rattle.std.specs.Prelude.{[], ◌∷◌, ◌++◌, ◌≡◌, ◌≤◌, length, Some, IfSome, MatchResult};
+ghost use Rattle.model.specs.Reason.{number_of, drawn};
 ghost use Rattle.model.specs.Refusal.{first_of, bad_size, bad_dot};
 ghost use Rattle.model.specs.PictureHeader.{most_value};
 ghost use Rattle.model.specs.PictureCalls.{bad_layout, bad_room, picture_refusals, pbm_refusals, pgm_refusals};
 ghost use Rattle.model.specs.PictureCalls.{count_rows_refusals};
 ghost use Rattle.invariants.specs.Pictures.{header_in};
+ghost use Rattle.picture_judge.specs.Found.{header_found};
 
 use judge_parts::judge_dots;
 use model::{After, NetpbmHeader, Reason, Size};
@@ -46,27 +47,41 @@ pub fn judge_room(needed: usize, room: usize) -> Result<(), Reason>
     Ok(())
 }
 
-// The whole list of reading a PBM whose header was found.
-pub fn judge_pbm(h: After<NetpbmHeader>, file: usize, room: usize) -> Result<(), Reason>
-    requires { (h.value.size.width ≤ most_value) × (h.value.size.height ≤ most_value) }
-    ensures { drawn result ≡ first_of (pbm_refusals (header_in h) file room) }
+// The whole list of reading a PBM: the header that was found, where nothing is refused.
+pub fn judge_pbm(
+    pbm: Option<After<NetpbmHeader>>,
+    file: usize,
+    room: usize,
+) -> Result<After<NetpbmHeader>, Reason>
+    requires { IfSome pbm (λ h. (h.value.size.width ≤ most_value) × (h.value.size.height ≤ most_value)) }
+    ensures { let number = first_of (pbm_refusals (header_found pbm) file room) in
+        MatchResult result (λ h. (number ≡ 0) × (pbm ≡ Some h)) (λ r. number_of r ≡ number) }
 {
+    let h = pbm.ok_or(Reason::Layout)?;
     let Size { width, height } = h.value.size;
     judge_layout(h, height * width.div_ceil(8), file)?;
-    judge_room(height * width, room)
+    judge_room(height * width, room)?;
+    Ok(h)
 }
 
-// The whole list of reading a PGM whose header was found.
-pub fn judge_pgm(h: After<NetpbmHeader>, file: usize, room: usize) -> Result<(), Reason>
-    requires { (h.value.size.width ≤ most_value) × (h.value.size.height ≤ most_value) }
-    ensures { drawn result ≡ first_of (pgm_refusals (header_in h) file room) }
+// The whole list of reading a PGM: the header that was found, where nothing is refused.
+pub fn judge_pgm(
+    pgm: Option<After<NetpbmHeader>>,
+    file: usize,
+    room: usize,
+) -> Result<After<NetpbmHeader>, Reason>
+    requires { IfSome pgm (λ h. (h.value.size.width ≤ most_value) × (h.value.size.height ≤ most_value)) }
+    ensures { let number = first_of (pgm_refusals (header_found pgm) file room) in
+        MatchResult result (λ h. (number ≡ 0) × (pgm ≡ Some h)) (λ r. number_of r ≡ number) }
 {
+    let h = pgm.ok_or(Reason::Layout)?;
     let cells = h.value.size.height * h.value.size.width;
     judge_layout(h, cells, file)?;
     if h.value.maximum != 255 {
         return Err(Reason::Maximum);
     }
-    judge_room(cells, room)
+    judge_room(cells, room)?;
+    Ok(h)
 }
 
 // 1 and 5, of a picture of so many cells.
