@@ -59,7 +59,7 @@ pub fn judge_filed(s: &[u8], at: usize, m: Layout) -> Result<After<FiledFigures>
 {
     let lines = judge_blocks(s, at, m)?;
     let figures = read_figures(s, lines)?;
-    judge_end(s, figures.at)?;
+    judge_end(s, Ok(figures.at))?;
     Ok(figures)
 }
 

@@ -2,7 +2,7 @@
 // it read, or a refusal with its byte offset.
 #![tactic(auto)]
 
-ghost use Rattle.std.specs.Prelude.{true, [], ◌∷◌, ◌++◌, ◌≡◌, ◌^◌, ◌≤◌, ◌<◌, length, get_or};
+ghost use Rattle.std.specs.Prelude.{true, [], ◌∷◌, ◌++◌, ◌≡◌, ◌^◌, ◌≤◌, ◌<◌, length, get_or, MatchResult};
 ghost use Rattle.std.proofs.lemmas.List.Edits.{sets};
 ghost use Rattle.model.specs.Error.{most_cells};
 ghost use Rattle.model.specs.Text.{is_letter, step_to};
@@ -148,10 +148,10 @@ fn store_grid(s: &[u8], at: usize, w: usize, n: usize, hi: usize, out: &mut [u8]
     next
 }
 
-// Judges a name and its rows.
+// Judges a name and its rows after what was read; what was refused stays refused.
 pub fn judge_block(
     s: &[u8],
-    at: usize,
+    done: Result<usize, Refused>,
     name: &[u8],
     w: usize,
     n: usize,
@@ -159,9 +159,11 @@ pub fn judge_block(
 ) -> Result<usize, Refused>
     requires le_w { (1 ≤ w) × (n ≤ most_cells) × (hi < 256) }
     requires name_nonzero { (0 < length name.now) × (is_letter (get_or name.now 0 0) ≡ true) }
-    ensures { place_in result
-        ≡ place_of (parse (block (name.now ++ (10 ∷ [])) w n hi) s.now at) }
+    ensures { MatchResult done (λ at.
+        place_in result ≡ place_of (parse (block (name.now ++ (10 ∷ [])) w n hi) s.now at))
+        (λ r. result ≡ Err r) }
 {
+    let at = done?;
     let rows = read_name(s, at, name, b'\n')?;
     judge_grid(s, rows, w, n, hi)
 }

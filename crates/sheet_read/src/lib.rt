@@ -1,11 +1,11 @@
 // Reading the lines of a sheet: lines 1 and 2, then the blocks of psf, gray and dots, judged first and stored after.
 #![tactic(auto)]
 
-ghost use Rattle.std.specs.Prelude.{true, ◌≡◌, ◌≤◌, length};
+ghost use Rattle.std.specs.Prelude.{true, ◌≡◌, ◌≤◌, length, MatchResult};
 ghost use Rattle.std.proofs.lemmas.List.Edits.{sets};
 ghost use Rattle.model.specs.Error.{most_cells};
 ghost use Rattle.model.specs.Sheet.{side_of, entries_of, cells_of, dots_in, names, InRange, room_for};
-ghost use Rattle.model.specs.Format.{head_from, dots_block, body, place, fixed_at, parse, place_of, ended};
+ghost use Rattle.model.specs.Format.{head_from, dots_block, body, fixed_at, parse, place_of, ended};
 ghost use Rattle.model.specs.Format.{head_by, sheet_of, body_end};
 ghost use Rattle.model.specs.SheetCalls.{sheet_buffers, stored};
 ghost use Rattle.invariants.specs.Reading.{place_in, ReadsAs};
@@ -99,21 +99,23 @@ pub fn read_head(s: &[u8], least: usize) -> Result<After<Layout>, Refused>
     })
 }
 
-// the dots stand in the sheet with start 2 only
+// the dots stand in the sheet with start 2 only; what was refused stays refused
 #[tactic(auto, unfolding(model::specs::Sheet::dots_name))]
-fn judge_dots(s: &[u8], at: usize, m: Layout) -> Result<usize, Refused>
-    ensures { place_in result ≡ place_of (parse (dots_block m.measures) s.now at) }
+fn judge_dots(s: &[u8], done: Result<usize, Refused>, m: Layout) -> Result<usize, Refused>
+    ensures { MatchResult done (λ at. place_in result ≡ place_of (parse (dots_block m.measures) s.now at))
+        (λ r. result ≡ Err r) }
 {
     if m.measures.start != 2 {
-        return Ok(at);
+        return done;
     }
-    judge_block(s, at, b"dots", m.measures.width, m.cells(), 1)
+    judge_block(s, done, b"dots", m.measures.width, m.cells(), 1)
 }
 
-// Nothing follows.
-pub fn judge_end(s: &[u8], at: usize) -> Result<usize, Refused>
-    ensures { place_in result ≡ ended s.now (place 0 at) }
+// Nothing follows; what was refused stays refused.
+pub fn judge_end(s: &[u8], done: Result<usize, Refused>) -> Result<usize, Refused>
+    ensures { place_in result ≡ ended s.now (place_in done) }
 {
+    let at = done?;
     if at < s.len() {
         return Err(Refused {
             reason: Reason::Byte,
@@ -127,9 +129,9 @@ pub fn judge_end(s: &[u8], at: usize) -> Result<usize, Refused>
 pub fn judge_blocks(s: &[u8], at: usize, m: Layout) -> Result<usize, Refused>
     ensures { place_in result ≡ place_of (parse (body m.measures) s.now at) }
 {
-    let gray = judge_block(s, at, b"psf", m.side(), m.entries(), 255)?;
-    let dots = judge_block(s, gray, b"gray", m.measures.width, m.cells(), 255)?;
-    judge_dots(s, dots, m)
+    let psf = judge_block(s, Ok(at), b"psf", m.side(), m.entries(), 255);
+    let gray = judge_block(s, psf, b"gray", m.measures.width, m.cells(), 255);
+    judge_dots(s, gray, m)
 }
 
 // Judges all that follows line 2 of a sheet.
@@ -137,8 +139,7 @@ pub fn judge_blocks(s: &[u8], at: usize, m: Layout) -> Result<usize, Refused>
 pub fn judge_body(s: &[u8], at: usize, m: Layout) -> Result<usize, Refused>
     ensures { place_in result ≡ body_end m.measures s.now at }
 {
-    let end = judge_blocks(s, at, m)?;
-    judge_end(s, end)
+    judge_end(s, judge_blocks(s, at, m))
 }
 
 // stores the dots that were judged good, with start 2 only
