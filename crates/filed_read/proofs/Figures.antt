@@ -1,81 +1,54 @@
--- What follows line 2 of a filed sheet, by its parts.
---   blocks_stop            the blocks are refused
---   figures_stop           or the two lines below them
---   end_stop, end_then     or what follows these; or nothing is
-use mathlib.Core.List.{List, ◌++◌}
-use mathlib.Core.Path.{◌≡◌, refl, sym, ◌∙◌, ap}
-use Prim.Native.Nat.{ℕ}
-use lib.Dec.{leb}
-use lib.ListN.{length, drop}
+-- What follows line 2 of a filed sheet: the blocks, then the two lines.
+--   filed_refused, filed_read_lem  the blocks are refused, and then no figure is read; or the two lines are judged after
+--                              them
+use mathlib.Core.List.{List, [], ◌∷◌}
+use mathlib.Core.Path.{◌≡◌}
+use Prim.Native.Nat.{ℕ, ◌≤◌}
+use native.Mathlib.Omega.{arith}
+use borrow.Author.Tests.{ne_eqb}
+use lib.ListN.{length, drop_of_length-le}
 use lib.Seq.{drop_at}
-use Rattle.std.specs.Prelude.{Err}
-use Rattle.invariants.specs.Reading.{FiledEnd}
+use Rattle.invariants.specs.Reading.{FiledEnd, filed_end}
 use Rattle.model.specs.declared.Measures.{Measures}
-use Rattle.model.specs.Format.{Place}
-use Rattle.model.specs.declared.Refused.{Refused}
-use Rattle.model.specs.Format.{body, place, Parsed, parsed, parse, place_of, ended}
+use Rattle.model.specs.Format.{Place, Part, fixed, number, body, place, fixed_at, field_at}
+use Rattle.model.specs.Format.{Parsed, parse, place_of, ended}
 use Rattle.model.specs.Grammar.{numbers}
 use Rattle.model.specs.Filed.{figure_parts, figures_of}
-use Rattle.model.specs.Reason.{number_of}
-use Rattle.model.proofs.Basic.{pick_cases}
-use Rattle.model.proofs.Format.{parse_append, values_length}
-use Rattle.invariants.specs.Reading.{place_in, filed_end}
-use Rattle.invariants.proofs.Reading.{ended_refused, place_stop}
+use Rattle.model.proofs.Basic.{zero_cases}
+use Rattle.model.proofs.Format.{parse_append, parse_refused, values_length}
 
--- a refusal is that of the filed sheet
-abbrev pub StopsAs : FiledEnd → Refused → Type 0
-StopsAs e r = (e.refusal ≡ number_of r.reason) × (e.at ≡ r.at)
+abbrev end_in : Parsed → FiledEnd
+end_in p = record { refusal = p.refusal; at = p.at; figures = figures_of p.values }
 
--- the end of what was read is where it was read to
-ended_at : (s : List ℕ) (o : ℕ) → (ended s (place 0 o)).at ≡ o
-ended_at s o = pick_cases (λ (p : Place). p.at ≡ o) (leb (length s) o) (λ t. refl) (λ t. refl)
+-- at most as many values as numbers
+values_most : (ps : List Part) (s : List ℕ) (at : ℕ) → length (parse ps s at).values ≤ numbers ps
+values_most [] s at = omega arith
+values_most (fixed bs ∷ ps) s at =
+    let p = fixed_at bs s at in
+    zero_cases (λ (r : Parsed). length r.values ≤ numbers ps) p.refusal (λ z. values_most ps s p.at)
+    (λ z. omega arith)
+values_most (number lo hi end ∷ ps) s at =
+    let f = field_at lo hi end s at in
+    zero_cases (λ (r : Parsed). length r.values ≤ numbers (number lo hi end ∷ ps)) f.refusal
+    (λ z. omega (arith, values_most ps s f.at)) (λ z. omega arith)
 
-module _ (m : Measures) (s : List ℕ) (at : ℕ) where
-  pub blocks_stop : (r : Refused) → place_in (Err r) ≡ place_of (parse (body m) s at) → StopsAs (filed_end m s at) r
+module _ (m : Measures) (s : List ℕ) (at : ℕ) (p : Place) (e : p ≡ place_of (parse (body m) s at)) where
+  pub filed_refused : (p.refusal ≡ 0 → ⊥)
+      → record { refusal = p.refusal; at = p.at; figures = figures_of [] } ≡ filed_end m s at
   unfolding filed_end
-  blocks_stop r e =
-      let f = ap (ended s) (place_stop (body m) figure_parts s at r e) ∙ sym (ended_refused s r refl) in
-      (ap (λ (p : Place). p.refusal) f, ap (λ (p : Place). p.at) f)
+  filed_refused z =
+      let b = parse (body m) s at in
+      let y : b.refusal ≡ 0 → ⊥ = rw e at z in
+      rw (e, parse_refused (body m) figure_parts s at y)
+      (rw (ne_eqb b.refusal 0 y, drop_of_length-le b.values (values_most (body m) s at)))
 
-  module _ {k : ℕ} (b : place 0 k ≡ place_of (parse (body m) s at)) where
-    abbrev figures : Parsed
-    figures = parse figure_parts s k
-
-    good : (parse (body m) s at).refusal ≡ 0
-    good = sym (ap (λ (p : Place). p.refusal) b)
-
-    whole : parse (body m ++ figure_parts) s at
-        ≡ parsed figures.refusal figures.at ((parse (body m) s at).values ++ figures.values)
-    whole =
-        parse_append (body m) figure_parts s at good
-        ∙ ap (λ (p : Place). let r = parse figure_parts s p.at in
-        parsed r.refusal r.at ((parse (body m) s at).values ++ r.values)) (sym b)
-
-    end_is : {p : Place} → place_of figures ≡ p → let e = filed_end m s at in
-        (e.refusal ≡ (ended s p).refusal) × (e.at ≡ (ended s p).at) × (e.figures ≡ figures_of figures.values)
-    unfolding filed_end
-    end_is q =
-        rw (← q, whole)
-        (refl, refl, ap figures_of below)
-      where
-        below : drop (numbers (body m)) ((parse (body m) s at).values ++ figures.values) ≡ figures.values
-        below = drop_at (parse (body m) s at).values figures.values (numbers (body m)) (values_length (body m) s at good)
-
-    pub figures_stop : (r : Refused) → figures.refusal ≡ number_of r.reason → figures.at ≡ r.at
-        → StopsAs (filed_end m s at) r
-    figures_stop r n o =
-        let (a, b, c) = end_is {p = place_in (Err r)} (λ i. place (n i) (o i)) in
-        let e = ended_refused s r {p = place_in (Err r)} refl in
-        (a ∙ sym (ap (λ (p : Place). p.refusal) e), b ∙ sym (ap (λ (p : Place). p.at) e))
-
-    module _ {o : ℕ} (n : figures.refusal ≡ 0) (p : figures.at ≡ o) where
-      pub end_stop : (r : Refused) → place_in (Err r) ≡ ended s (place 0 o) → StopsAs (filed_end m s at) r
-      end_stop r e =
-          let (a, b, c) = end_is {p = place 0 o} (λ i. place (n i) (p i)) in
-          (a ∙ sym (ap (λ (p : Place). p.refusal) e), b ∙ sym (ap (λ (p : Place). p.at) e))
-
-      pub end_then : {x : ℕ} → place 0 x ≡ ended s (place 0 o) → let e = filed_end m s at in
-          (e.refusal ≡ 0) × (e.at ≡ o) × (e.figures ≡ figures_of figures.values)
-      end_then e =
-          let (a, b, c) = end_is {p = place 0 o} (λ i. place (n i) (p i)) in
-          (a ∙ sym (ap (λ (p : Place). p.refusal) e), b ∙ ended_at s o, c)
+  pub filed_read_lem : p.refusal ≡ 0 → {l : FiledEnd} → l ≡ end_in (parse figure_parts s p.at)
+      → {e : Place} → e ≡ ended s (place l.refusal l.at)
+      → record { refusal = e.refusal; at = e.at; figures = l.figures } ≡ filed_end m s at
+  unfolding filed_end
+  filed_read_lem z el ee =
+      let b = parse (body m) s at in
+      let r = parse figure_parts s b.at in
+      let y : b.refusal ≡ 0 = rw e at z in
+      let below = drop_at b.values r.values (numbers (body m)) (values_length (body m) s at y) in
+      rw (ee, el, e, parse_append (body m) figure_parts s at y) (rw below)

@@ -2,15 +2,16 @@
 // judged whole before anything is stored.
 #![tactic(auto)]
 
-ghost use Rattle.std.specs.Prelude.{◌≡◌};
+ghost use Rattle.std.specs.Prelude.{[], ◌≡◌};
 ghost use Rattle.model.specs.Psf.{total};
-ghost use Rattle.model.specs.Format.{body, field_at, parse, sheet_of};
+ghost use Rattle.model.specs.Format.{body, field_at, parse, place_of, sheet_of};
 ghost use Rattle.model.specs.Filed.{most_figure, figure_parts, figures_of, filed_room};
-ghost use Rattle.invariants.specs.Reading.{field_in, ReadsAs, filed_end};
+ghost use Rattle.invariants.specs.Reading.{place_in, field_in, filed_end};
+ghost use Rattle.filed_read.specs.End.{end_in};
 
 use model::{After, FiledFigures, Refused};
 use sheet_fields::{read_field, read_fixed, store_block};
-use sheet_read::{Layout, judge_blocks, judge_end};
+use sheet_read::{Layout, Unread, judge_blocks, judge_end};
 use slices::sum;
 
 // one of the six figures, and the byte that ends it
@@ -24,43 +25,63 @@ fn read_figure(s: &[u8], at: usize, end: u8) -> Result<After<u64>, Refused>
     })
 }
 
-// the two lines
+// the two lines up to a refusal, the figures one by one
 #[tactic(auto, unfolding(model::specs::Filed::figure_parts))]
-fn read_figures(s: &[u8], at: usize) -> Result<After<FiledFigures>, Refused>
-    ensures { let p = parse figure_parts s.now at in
-        ReadsAs result p.refusal p.at (λ f. figures_of p.values ≡ f) }
+fn read_figures(s: &[u8], at: usize, f: &mut FiledFigures) -> Result<usize, Refused>
+    requires { f.old ≡ figures_of [] }
+    ensures at { place_in result ≡ place_of (parse figure_parts s.now at) }
+    ensures read { f.new ≡ figures_of (parse figure_parts s.now at).values }
 {
     let names = read_fixed(s, at, b"before after on off swaps scans\n")?;
     let before = read_figure(s, names, b' ')?;
+    f.before = before.value;
     let after = read_figure(s, before.at, b' ')?;
+    f.after = after.value;
     let on = read_figure(s, after.at, b' ')?;
+    f.on = on.value;
     let off = read_figure(s, on.at, b' ')?;
+    f.off = off.value;
     let swaps = read_figure(s, off.at, b' ')?;
+    f.swaps = swaps.value;
     let scans = read_figure(s, swaps.at, b'\n')?;
-    let value = FiledFigures {
-        before: before.value,
-        after: after.value,
-        on: on.value,
-        off: off.value,
-        swaps: swaps.value,
-        scans: scans.value,
-    };
-    Ok(After {
-        value,
-        at: scans.at,
-    })
+    f.scans = scans.value;
+    Ok(scans.at)
 }
 
-// Judges all that follows line 2, and reads the figures.
-#[tactic(auto, using(crate::proofs::Figures::blocks_stop, crate::proofs::Figures::figures_stop, crate::proofs::Figures::end_stop))]
-pub fn judge_filed(s: &[u8], at: usize, m: Layout) -> Result<After<FiledFigures>, Refused>
-    ensures { let e = filed_end m.measures s.now at in
-        ReadsAs result e.refusal e.at (λ f. e.figures ≡ f) }
+// all that follows line 2 up to a refusal, with the figures
+fn judge_lines(s: &[u8], at: usize, m: Layout, f: &mut FiledFigures) -> Result<usize, Refused>
+    requires { f.old ≡ figures_of [] }
+    ensures { let p = place_in result in
+        record { refusal = p.refusal; at = p.at; figures = f.new } ≡ filed_end m.measures s.now at }
 {
     let lines = judge_blocks(s, at, m)?;
-    let figures = read_figures(s, lines)?;
-    judge_end(s, Ok(figures.at))?;
-    Ok(figures)
+    let end = read_figures(s, lines, f);
+    judge_end(s, end)
+}
+
+// Judges all that follows line 2, and reads the figures; a refusal has the figures before it.
+pub fn judge_filed(
+    s: &[u8],
+    at: usize,
+    m: Layout,
+) -> Result<After<FiledFigures>, Unread<FiledFigures>>
+    ensures { end_in result ≡ filed_end m.measures s.now at }
+{
+    let mut figures = FiledFigures {
+        before: 0,
+        after: 0,
+        on: 0,
+        off: 0,
+        swaps: 0,
+        scans: 0,
+    };
+    match judge_lines(s, at, m, &mut figures) {
+        Ok(at) => Ok(After { value: figures, at }),
+        Err(refused) => Err(Unread {
+            refused,
+            so_far: figures,
+        }),
+    }
 }
 
 // Whether buffers of these lengths are long enough.

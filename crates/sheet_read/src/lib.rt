@@ -1,17 +1,33 @@
 // Reading the lines of a sheet: lines 1 and 2, then the blocks of psf, gray and dots, judged first and stored after.
 #![tactic(auto)]
 
-ghost use Rattle.std.specs.Prelude.{true, ◌≡◌, ◌≤◌, length, MatchResult};
+ghost use Rattle.std.specs.Prelude.{true, [], ◌≡◌, ◌≤◌, length, OnOk, MatchResult};
 ghost use Rattle.std.proofs.lemmas.List.Edits.{sets};
 ghost use Rattle.model.specs.Error.{most_cells};
 ghost use Rattle.model.specs.Sheet.{side_of, entries_of, cells_of, dots_in, names, InRange, room_for};
 ghost use Rattle.model.specs.Format.{head_from, dots_block, body, fixed_at, parse, place_of, ended};
-ghost use Rattle.model.specs.Format.{head_by, sheet_of, body_end};
+ghost use Rattle.model.specs.Format.{measures_of, head_by, sheet_of, body_end};
 ghost use Rattle.model.specs.SheetCalls.{sheet_buffers, stored};
-ghost use Rattle.invariants.specs.Reading.{place_in, ReadsAs};
+ghost use Rattle.invariants.specs.Reading.{place_in};
+ghost use Rattle.sheet_read.specs.Head.{head_in};
 
 use model::{After, Measures, Reason, Refused};
 use sheet_fields::{judge_block, read_field, read_name, store_block};
+
+// A refusal, with what was read before it: 0 for what was not.
+#[derive(Clone, Copy)]
+pub struct Unread<T> {
+    pub refused: Refused,
+    pub so_far: T,
+}
+
+impl<T: Copy> From<Unread<T>> for Refused {
+    ghost from_gives = { λ u e. e ≡ u.refused };
+
+    fn from(unread: Unread<T>) -> Refused {
+        unread.refused
+    }
+}
 
 // The measures of a sheet, each in its field.
 #[derive(Clone, Copy)]
@@ -73,30 +89,52 @@ fn read_names(s: &[u8]) -> Result<usize, Refused>
     read_name(s, start, b"start", b'\n')
 }
 
-// Lines 1 and 2, the kind of start from the least allowed on.
+// lines 1 and 2 up to a refusal, the measures one by one; laid into `read_head` likewise
 #[inline(always)]
-#[tactic(auto, unfolding(model::specs::Format::head_by, model::specs::Format::head_from))]
-pub fn read_head(s: &[u8], least: usize) -> Result<After<Layout>, Refused>
-    ensures { let h = head_by (head_from least) s.now in
-        ReadsAs result h.refusal h.at (λ l. h.measures ≡ l.measures) }
+#[tactic(auto, unfolding(model::specs::Format::head_from))]
+fn read_measures(s: &[u8], least: usize, m: &mut Measures) -> Result<usize, Refused>
+    requires { m.old ≡ measures_of [] }
+    ensures at { place_in result ≡ place_of (parse (head_from least) s.now 0) }
+    ensures read { m.new ≡ measures_of (parse (head_from least) s.now 0).values }
+    ensures in_range { OnOk result (InRange m.new) }
 {
     let line = read_names(s)?;
     let width = read_field(s, line, 1, 256, b' ')?;
+    m.width = width.value;
     let height = read_field(s, width.at, 1, 256, b' ')?;
+    m.height = height.value;
     let radius = read_field(s, height.at, 0, 3, b' ')?;
+    m.radius = radius.value;
     let reach = read_field(s, radius.at, 0, 6, b' ')?;
+    m.reach = reach.value;
     let start = read_field(s, reach.at, least, 2, b'\n')?;
-    let measures = Measures {
-        width: width.value,
-        height: height.value,
-        radius: radius.value,
-        reach: reach.value,
-        start: start.value,
+    m.start = start.value;
+    Ok(start.at)
+}
+
+// Lines 1 and 2, the kind of start from the least allowed on; a refusal has the measures before it.
+#[inline(always)]
+#[tactic(auto, unfolding(model::specs::Format::head_by))]
+pub fn read_head(s: &[u8], least: usize) -> Result<After<Layout>, Unread<Measures>>
+    ensures { head_in result (λ l. l.measures) ≡ head_by (head_from least) s.now }
+{
+    let mut measures = Measures {
+        width: 0,
+        height: 0,
+        radius: 0,
+        reach: 0,
+        start: 0,
     };
-    Ok(After {
-        value: Layout { measures },
-        at: start.at,
-    })
+    match read_measures(s, least, &mut measures) {
+        Ok(at) => Ok(After {
+            value: Layout { measures },
+            at,
+        }),
+        Err(refused) => Err(Unread {
+            refused,
+            so_far: measures,
+        }),
+    }
 }
 
 // the dots stand in the sheet with start 2 only; what was refused stays refused

@@ -1,7 +1,7 @@
 -- `filed::check_filed` meets its contract: the outcome is the call's, whatever was read.
 use mathlib.Core.Bool.{true}
 use mathlib.Core.List.{List}
-use mathlib.Core.Logic.{◌⊎◌, inl, inr}
+use mathlib.Core.Logic.{inl, inr}
 use mathlib.Core.Path.{◌≡◌, refl, sym, ◌∙◌, ap, subst}
 use Prim.Native.Nat.{ℕ, ◌≤◌}
 use native.Mathlib.Omega.{arith}
@@ -34,29 +34,21 @@ use Rattle.filed.proofs.check_filed.Goals.{then-sum-eq0-via-then-sum-eq0, then-s
 abbrev head : Measures → ℕ → Head
 head m at = record { refusal = 0; at = at; measures = m }
 
-head_is : (bytes : List ℕ) (m : Measures) (at : ℕ) → let h = head_by (head_from 2) bytes in
-    (h.refusal ≡ 0) × (h.at ≡ at) × (h.measures ≡ m) → head m at ≡ h
-head_is bytes m at r = λ i. record { refusal = (sym r.0) i; at = (sym r.1) i; measures = (sym r.2) i }
-
 -- what follows, with its figures
 abbrev end : FiledFigures → ℕ → FiledEnd
 end f at = record { refusal = 0; at = at; figures = f }
 
-end_is : (bytes : List ℕ) (m : Measures) (from : ℕ) (f : FiledFigures) (at : ℕ) → let e = filed_end m bytes from in
-    (e.refusal ≡ 0) × (e.at ≡ at) × (e.figures ≡ f) → end f at ≡ e
-end_is bytes m from f at r = λ i. record { refusal = (sym r.0) i; at = (sym r.1) i; figures = (sym r.2) i }
-
 -- nothing that was read is refused
 whole : (bytes psf gray dots : List ℕ) (table : List ℤ) (m : Measures) (from : ℕ) (f : FiledFigures) (at : ℕ)
-    → (let h = head_by (head_from 2) bytes in (h.refusal ≡ 0) × (h.at ≡ from) × (h.measures ≡ m))
+    → head m from ≡ head_by (head_from 2) bytes
     → filed_room (length psf) (length gray) (length dots) (length table) m ≡ true
-    → (let e = filed_end m bytes from in (e.refusal ≡ 0) × (e.at ≡ at) × (e.figures ≡ f))
+    → end f at ≡ filed_end m bytes from
     → Whole bytes psf gray dots table (head m from) (end f at)
-whole bytes psf gray dots table m from f at r room s = record {
-  head_is = head_is bytes m from r;
+whole bytes psf gray dots table m from f at h room e = record {
+  head_is = h;
   head_good = refl;
   has_room = room;
-  end_is = end_is bytes m from f at s;
+  end_is = e;
   end_good = refl;
 }
 
@@ -66,23 +58,20 @@ sheet bytes m at = sheet_of m (parse (body m) bytes at).values
 
 pub returns-in_err-head : goal.returns-in_err-head
 returns-in_err-head c =
-    let r = c.in_err-head.ensures in
-    rw (err_same c.from_residual.result c.from_residual.ensures.1, ← r.0, ← r.1)
-    (ends_as (head_refused _ _ _ _ _ _ refl (λ z. some_number _ (sym r.0 ∙ z))))
+    rw (err_same c.from_residual.result c.from_residual.ensures.1)
+    (ends_as (head_refused _ _ _ _ _ _ c.in_err-head.ensures (some_number _)))
 
 pub returns-then-not-has_filed_room : goal.returns-then-not-has_filed_room
 returns-then-not-has_filed_room c =
     ends_as
-    (no_room _ _ _ _ _ _ (head_is _ _ _ c.in_ok-head.ensures) refl
-    (sym c.has_filed_room.ensures ∙ c.if-not-has_filed_room.true))
+    (no_room _ _ _ _ _ _ c.in_ok-head.ensures refl (sym c.has_filed_room.ensures ∙ c.if-not-has_filed_room.true))
 
 pub returns-in_err-figures : goal.returns-in_err-figures
 returns-in_err-figures c =
-    let r = c.in_err-figures.ensures in
-    rw (err_same c.from_residual-in_err-figures.result c.from_residual-in_err-figures.ensures.1, ← r.0, ← r.1)
+    rw (err_same c.from_residual-in_err-figures.result c.from_residual-in_err-figures.ensures.1)
     (ends_as
-    (below_refused _ _ _ _ _ _ (head_is _ _ _ c.in_ok-head.ensures) refl
-    (sym c.has_filed_room.ensures ∙ c.if-not-has_filed_room.false) _ refl (λ z. some_number _ (sym r.0 ∙ z))))
+    (below_refused _ _ _ _ _ _ c.in_ok-head.ensures refl
+    (sym c.has_filed_room.ensures ∙ c.if-not-has_filed_room.false) _ c.in_err-figures.ensures (some_number _)))
 
 pub psf_sum-sum-requires : goal.psf_sum-sum-requires
 psf_sum-sum-requires c =

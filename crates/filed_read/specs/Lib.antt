@@ -1,0 +1,2 @@
+-- A definition that the contracts of this crate use.
+pub mod End
