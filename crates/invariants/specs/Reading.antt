@@ -1,5 +1,5 @@
 -- What the code answers of a text that it reads, as the definitions have it; and a filed sheet from a place on.
-use Rattle.std.specs.Prelude.{true, List, ◌++◌, ◌≡◌, ℕ, Result, Ok, Err, Option, Some, None}
+use Rattle.std.specs.Prelude.{true, List, ◌++◌, ℕ, Result, Ok, Err, Option, Some, None}
 use Rattle.model.specs.declared.After.{After}
 use Rattle.model.specs.Format.{Field}
 use Rattle.model.specs.declared.FiledFigures.{FiledFigures}
@@ -22,11 +22,6 @@ place_in (Err r) = place (number_of r.reason) r.at
 abbrev pub field_in : Result (After ℕ) Refused → Field
 field_in (Ok a) = field 0 a.at a.value
 field_in (Err r) = field (number_of r.reason) r.at 0
-
--- what is refused with a number at a place, 0 where it is not and its value and the place after it are as they must be
-abbrev pub ReadsAs : {A : Type 0} → Result (After A) Refused → (refusal at : ℕ) → (A → Type 0) → Type 0
-ReadsAs (Ok a) n o Holds = (n ≡ 0) × (o ≡ a.at) × Holds a.value
-ReadsAs (Err r) n o Holds = (n ≡ number_of r.reason) × (o ≡ r.at)
 
 -- the lines of a PFM where they are there, and what is found of them
 abbrev pub lines_at : After PfmHeader → PfmLines
