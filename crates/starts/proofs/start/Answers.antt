@@ -23,9 +23,8 @@ module _ (s : Start) (taken : start_refusal s.args.setting.measures s.args.setti
 
 pub start_dots-requires : goal.start_dots-requires
 start_dots-requires c =
-    let s : Start = search in
     let taken = sym c.in_ok-judge_start.ensures in
-    let f = fits s taken in record {
+    let f = (start_plate _ _ _ _ _ taken).halftone in record {
       width_nonzero = f.wide.0;
       gray_len = (f.gray_length, start_given _ _ _ _ _ taken);
     }
