@@ -91,6 +91,6 @@ pub fn run(input: &[u8], out: &mut [u8; MOST_PRINTED]) -> usize
 {
     match settle(input, out) {
         Ok(end) => end,
-        Err(refused) => put_refused(out, refused),
+        Err(refused) => put_refused(out, refused.reason.into(), refused.at),
     }
 }

@@ -2,26 +2,25 @@
 #![tactic(auto)]
 
 ghost use Rattle.std.specs.Prelude.{◌≡◌, ◌+◌, ◌≤◌, length};
-ghost use Rattle.model.specs.Reason.{number_of};
 ghost use Rattle.model.specs.Text.{Puts};
 ghost use Rattle.model.specs.Program.{refused_text, stats_text, most_printed, Prints};
 
-use model::{ConvergeResult, Refused};
+use model::ConvergeResult;
 use sheet_write::{put_field, put_row};
 use slices::put_bytes;
 use text_decimal::put_number;
 
 // Puts `refused N at B` at the front of an output that is long enough.
 #[tactic(auto, using(crate::proofs::Lengths::digits_most))]
-pub fn put_refused(out: &mut [u8], refused: Refused) -> usize
+pub fn put_refused(out: &mut [u8], number: u32, at: usize) -> usize
     requires { most_printed ≤ length out.old }
-    ensures { Prints (refused_text (number_of refused.reason) refused.at) out.old out.new result }
+    ensures { Prints (refused_text number at) out.old out.new result }
 {
     let word = put_bytes(out, 0, b"refused ");
     // cast, since usize is From no larger type than u16
-    let numbered = put_number(out, word, u32::from(refused.reason) as usize);
+    let numbered = put_number(out, word, number as usize);
     let placed = put_bytes(out, numbered, b" at ");
-    put_field(out, placed, refused.at, b'\n')
+    put_field(out, placed, at, b'\n')
 }
 
 // Puts the two lines of the ledger at a place.

@@ -8,13 +8,11 @@ use Rattle.settle_report.proofs.put_refused.Goals as goal
 pub returns : goal.returns
 unfolding refused_text
 returns c =
-    let number = c.from.result in
-    let at = c.args.refused.at in
+    let number = c.args.number in
+    let at = c.args.at in
     let put =
     puts_then c.put_bytes-word.ensures
-    (puts_then c.put_number-numbered.ensures (puts_then c.put_bytes-placed.ensures c.put_field.ensures)) in
-    rw (← c.from.ensures)
-    (record {
+    (puts_then c.put_number-numbered.ensures (puts_then c.put_bytes-placed.ensures c.put_field.ensures)) in record {
       put = put;
       most =
           omega (
@@ -24,4 +22,4 @@ returns c =
             digits_most at (omega arith),
             refused_length number at,
           );
-    })
+    }
