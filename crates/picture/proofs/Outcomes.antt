@@ -1,18 +1,19 @@
 -- The outcomes of the calls.
+--   told_is     what a reader answers is the header that was found, or none
 --   header_is   the header that was found, as the definitions have it
 --   pbm_drawn   what a judge draws of what was found is drawn of the header; of a PBM
 --   pgm_drawn   the same of a PGM
 --   ends_err    a call that a judge refuses
 --   has_room    a buffer that is long enough
 --   file_put    a file put, its head and then its raster
-use Rattle.std.proofs.Common.{◌≡◌, ℕ, ◌+◌, ◌-◌, ◌≤◌, Bool, true, false, List, [], ◌∷◌, ◌++◌, length, take, drop, Some, refl, sym, ◌∙◌, ap, arith, append_assoc}
+use Rattle.std.proofs.Common.{◌≡◌, ℕ, ◌+◌, ◌-◌, ◌≤◌, Bool, true, false, List, [], ◌∷◌, ◌++◌, length, take, drop, Ok, Err, Some, refl, sym, ◌∙◌, ap, arith, append_assoc}
 use mathlib.Core.List.{append-nil}
 use native.Mathlib.Nat.{zero-add}
 use borrow.Rule.Slice.PartMut.{put_mid, mid_of}
 use borrow.Author.Tests.{ltb-false}
 use lib.Seq.{sets, drop-drop}
 use Rattle.std.specs.Prelude.{Result, Option}
-use Rattle.std.specs.Result.{IsErrAnd}
+use Rattle.std.specs.Result.{IsErrAnd, result_ok}
 use Rattle.std.proofs.lemmas.Result.{err_from_is_err_and}
 use Rattle.std.proofs.lemmas.Option.{same_Some, none-some}
 use Rattle.std.proofs.lemmas.Slice.{between_to_end}
@@ -31,8 +32,14 @@ use Rattle.model.proofs.Calls.{ends_refused}
 use Rattle.model.proofs.Puts.{puts_rest}
 use Rattle.model.proofs.Refusal.{none}
 use Rattle.invariants.specs.Pictures.{header_in, header_of}
+use Rattle.picture_header.specs.Read.{header_told}
 use Rattle.picture_judge.specs.Found.{header_found}
 use Rattle.judge_parts.proofs.Drawn.{some_number}
+
+pub told_is : (r : Result (After NetpbmHeader) (After NetpbmHeader)) {h : PictureHeader} {o : Option (After NetpbmHeader)}
+    → o ≡ result_ok r → header_told r ≡ h → o ≡ header_of h
+told_is (Ok a) e e' = rw (e, ← e')
+told_is (Err a) e e' = rw (e, ← e')
 
 pub header_is : (h : PictureHeader) (x : After NetpbmHeader) → header_of h ≡ Some x → h ≡ header_in x
 header_is h x e = go h.good refl

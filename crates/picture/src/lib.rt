@@ -17,7 +17,7 @@ use picture_raster::{negate, pack_rows, unpack_rows};
 pub fn read_pbm(file: &[u8], dots: &mut [u8]) -> Result<Size, Reason>
     ensures { Ends (read_pbm_call file.now dots.old) (reply_of result) dots.new }
 {
-    let header = judge_pbm(pbm_header(file), file.len(), dots.len())?;
+    let header = judge_pbm(pbm_header(file).ok(), file.len(), dots.len())?;
     unpack_rows(header.value.size, &file[header.at..], dots);
     Ok(header.value.size)
 }
@@ -27,7 +27,7 @@ pub fn read_pbm(file: &[u8], dots: &mut [u8]) -> Result<Size, Reason>
 pub fn read_pgm(file: &[u8], gray: &mut [u8]) -> Result<Size, Reason>
     ensures { Ends (read_pgm_call file.now gray.old) (reply_of result) gray.new }
 {
-    let header = judge_pgm(pgm_header(file), file.len(), gray.len())?;
+    let header = judge_pgm(pgm_header(file).ok(), file.len(), gray.len())?;
     negate(&file[header.at..], gray);
     Ok(header.value.size)
 }

@@ -3,21 +3,21 @@ use Rattle.std.proofs.Common.{sym, ◌∙◌, length, refl, arith}
 use Rattle.std.proofs.lemmas.Slice.{between_to_end}
 use Rattle.model.specs.PictureCalls.{read_pgm_call}
 use Rattle.model.proofs.Calls.{ends_done}
-use Rattle.picture.proofs.Outcomes.{header_is, pgm_drawn, ends_err}
+use Rattle.picture.proofs.Outcomes.{told_is, header_is, pgm_drawn, ends_err}
 use Rattle.picture.proofs.read_pgm.Goals as goal
 
 pub returns-in_err-header : goal.returns-in_err-header
 unfolding read_pgm_call
 returns-in_err-header c =
     ends_err _ _ _ _ _ c.from_residual.ensures.1
-    (c.in_err-header.ensures ∙ pgm_drawn _ _ c.pgm_header.ensures.value _ _)
+    (c.in_err-header.ensures ∙ pgm_drawn _ _ (told_is _ c.ok.ensures.value c.pgm_header.ensures.value) _ _)
 
 pub returns : goal.returns
 unfolding read_pgm_call
 returns c =
     let s = c.args.file.now in
     let (none, some) = c.in_ok-header.ensures in
-    rw (header_is _ _ (sym c.pgm_header.ensures.value ∙ some))
+    rw (header_is _ _ (sym (told_is _ c.ok.ensures.value c.pgm_header.ensures.value) ∙ some))
     (ends_done _ _ _ (rw some at none)
     (record {
       reply_is = refl;

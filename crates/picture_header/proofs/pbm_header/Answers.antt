@@ -1,28 +1,38 @@
 -- `picture_header::pbm_header` meets its contract.
-use Rattle.model.specs.PictureHeader.{pbm_header}
-use Rattle.picture_header.proofs.Parts.{height_next, size_missed, size_read, end_stays, end_missed, end_read}
+use Rattle.std.proofs.Common.{◌≡◌, ◌≤◌, ◌&&◌}
+use Rattle.model.specs.declared.After.{After}
+use Rattle.model.specs.declared.NetpbmHeader.{NetpbmHeader}
+use Rattle.model.specs.PictureHeader.{magic, number_next, most_value, pbm_header}
+use Rattle.picture_header.specs.Read.{told}
+use Rattle.picture_header.proofs.Parts.{told_ok, told_either, told_header, end_after}
 use Rattle.picture_header.proofs.pbm_header.Goals as goal
+use Rattle.picture_header.proofs.pbm_header.Goals.{then-is_ok, else-is_ok}
 
-pub returns-in_err-size-clause-value : goal.returns-in_err-size-clause-value
+pub returns : goal.returns
 unfolding pbm_header
-returns-in_err-size-clause-value c =
+returns c =
     let s = c.args.s.now in
-    rw (c.from_residual.ensures, end_stays s (height_next s 52) (size_missed s 52 c.in_err-size.ensures.value))
-
-pub returns-in_err-at-clause-value : goal.returns-in_err-at-clause-value
-unfolding pbm_header
-returns-in_err-at-clause-value c =
-    let s = c.args.s.now in
-    let size = size_read s 52 c.in_ok-size.size c.in_ok-size.ensures.value in
-    rw (
-      c.from_residual-in_err-at.ensures,
-      end_missed s (height_next s 52) size.there (rw size.place c.in_err-at.ensures),
-    )
-
-pub returns-clause-value : goal.returns-clause-value
-unfolding pbm_header
-returns-clause-value c =
-    let s = c.args.s.now in
-    let size = size_read s 52 c.in_ok-size.size c.in_ok-size.ensures.value in
-    let (there, place) = end_read s (height_next s 52) size.there c.in_ok-at.at (rw size.place c.in_ok-at.ensures) in
-    rw (there, place, size.height, size.width)
+    let h = number_next s (number_next s (magic s 52)) in
+    let size = told_ok c.read_size-size.result c.is_ok.ensures.value in
+    let there : c.if-is_ok.tell ≡ (told c.read_size-size.result).0 && (told c.read_end-end.result).0 =
+    elim c.if-is_ok.branch [
+      | then-is_ok w ↦ rw (w.tell-is, told_ok _ w.is_ok-then-is_ok.ensures.value, ← size, w.if-is_ok.true)
+      | else-is_ok w ↦ rw (w.tell-is, ← size, w.if-is_ok.false)
+    ] in
+    record {
+      value =
+          rw (
+            told_header c.tell.result,
+            c.tell.ensures,
+            there,
+            c.read_of-at.ensures,
+            c.read_end-end.ensures,
+            c.read_of-z.ensures,
+            c.read_size-size.ensures.value,
+            end_after s h,
+          );
+      width_le_most_value =
+          told_either (λ (h : After NetpbmHeader). (h.value.size.width ≤ most_value) × (h.value.size.height ≤ most_value))
+          c.tell.result
+          (rw (c.tell.ensures, c.read_of-z.ensures) c.read_size-size.ensures.width_le_most_value);
+    }

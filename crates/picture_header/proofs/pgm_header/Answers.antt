@@ -1,55 +1,48 @@
 -- `picture_header::pgm_header` meets its contract.
-use Rattle.std.proofs.Common.{◌≡◌, true, refl}
-use Rattle.model.specs.PictureHeader.{found, number_next, pgm_header}
-use Rattle.picture_header.proofs.Parts.{number_stays, number_missed, number_read, end_stays, end_missed, end_read}
-use Rattle.picture_header.proofs.Parts.{height_next, IsSize, size_missed, size_read}
+use Rattle.std.proofs.Common.{◌≡◌, ◌≤◌, ◌&&◌}
+use Rattle.model.specs.declared.After.{After}
+use Rattle.model.specs.declared.NetpbmHeader.{NetpbmHeader}
+use Rattle.model.specs.PictureHeader.{magic, number_next, most_value, pgm_header}
+use Rattle.picture_header.specs.Read.{told}
+use Rattle.picture_header.proofs.Parts.{told_ok, told_either, told_header, number_after, end_after}
 use Rattle.picture_header.proofs.pgm_header.Goals as goal
-use Rattle.picture_header.proofs.pgm_header.Goals.{In_ok-size, In_ok-maximum}
+use Rattle.picture_header.proofs.pgm_header.Goals.{then-is_ok, else-is_ok, then-is_ok-2, else-is_ok-2}
 
-pub returns-in_err-size-clause-value : goal.returns-in_err-size-clause-value
+pub returns : goal.returns
 unfolding pgm_header
-returns-in_err-size-clause-value c =
+returns c =
     let s = c.args.s.now in
-    let h = height_next s 53 in
-    let missed = number_stays s h (size_missed s 53 c.in_err-size.ensures.value) in
-    rw (c.from_residual.ensures, end_stays s (number_next s h) missed)
-
--- the size, and the maximum
-size : (c : In_ok-size) → IsSize c.args.s.now 53 c.in_ok-size.size
-size c = size_read c.args.s.now 53 c.in_ok-size.size c.in_ok-size.ensures.value
-
-pub returns-in_err-maximum-clause-value : goal.returns-in_err-maximum-clause-value
-unfolding pgm_header
-returns-in_err-maximum-clause-value c =
-    let s = c.args.s.now in
-    let h = height_next s 53 in
-    let z = size (goal.at.returns-in_err-maximum-clause-value c).In_ok-size in
-    let missed = number_missed s h z.there (rw z.place c.in_err-maximum.ensures) in
-    rw (c.from_residual-in_err-maximum.ensures, end_stays s (number_next s h) missed)
-
-maximum : (c : In_ok-maximum)
-    → let m = c.in_ok-maximum.maximum in
-    number_next c.args.s.now (height_next c.args.s.now 53) ≡ found true m.value m.at
-maximum c =
-    let s = c.args.s.now in
-    let z = size (goal.at.In_ok-maximum c).In_ok-size in
-    number_read s (height_next s 53) z.there c.in_ok-maximum.maximum (rw z.place c.in_ok-maximum.ensures)
-
-pub returns-in_err-at-clause-value : goal.returns-in_err-at-clause-value
-unfolding pgm_header
-returns-in_err-at-clause-value c =
-    let m = c.in_ok-maximum.maximum in
-    rw (
-      c.from_residual-in_err-at.ensures,
-      maximum (goal.at.returns-in_err-at-clause-value c).In_ok-maximum,
-      end_missed c.args.s.now (found true m.value m.at) refl c.in_err-at.ensures,
-    )
-
-pub returns-clause-value : goal.returns-clause-value
-unfolding pgm_header
-returns-clause-value c =
-    let at = goal.at.returns-clause-value c in
-    let z = size at.In_ok-size in
-    let m = c.in_ok-maximum.maximum in
-    let (there, place) = end_read c.args.s.now (found true m.value m.at) refl c.in_ok-at.at c.in_ok-at.ensures in
-    rw (maximum at.In_ok-maximum, there, place, z.height, z.width)
+    let h = number_next s (number_next s (magic s 53)) in
+    let m = number_next s h in
+    let size = told_ok c.read_size-size.result c.is_ok.ensures.value in
+    let numbers : c.if-is_ok.value ≡ (told c.read_size-size.result).0 && (told c.next_number-maximum.result).0 =
+    elim c.if-is_ok.branch [
+      | then-is_ok w ↦ rw (w.value-is, told_ok _ w.is_ok-then-is_ok.ensures.value, ← size, w.if-is_ok.true)
+      | else-is_ok w ↦ rw (w.value-is, ← size, w.if-is_ok.false)
+    ] in
+    let there : c.if-is_ok-2.there ≡ c.if-is_ok.value && (told c.read_end-end.result).0 =
+    elim c.if-is_ok-2.branch [
+      | then-is_ok-2 w ↦ rw (w.there-is, told_ok _ w.is_ok-there.ensures.value, w.if-is_ok-2.true)
+      | else-is_ok-2 w ↦ rw (w.there-is, w.if-is_ok-2.false)
+    ] in
+    record {
+      value =
+          rw (
+            told_header c.tell.result,
+            c.tell.ensures,
+            there,
+            numbers,
+            c.read_of-at.ensures,
+            c.read_end-end.ensures,
+            c.read_of-m.ensures,
+            c.next_number-maximum.ensures,
+            c.read_of-z.ensures,
+            c.read_size-size.ensures.value,
+            end_after s m,
+            number_after s h,
+          );
+      width_le_most_value =
+          told_either (λ (h : After NetpbmHeader). (h.value.size.width ≤ most_value) × (h.value.size.height ≤ most_value))
+          c.tell.result
+          (rw (c.tell.ensures, c.read_of-z.ensures) c.read_size-size.ensures.width_le_most_value);
+    }

@@ -21,4 +21,4 @@ returns c =
     let value = c.loop-byte.value in
     let stop : number_from some value at (glyphs_at c.args.s.now at) ≡ found some value at =
     grind (arith, digits_past, digits_stop) in
-    rw (c.then_some.ensures, ← c.loop-byte.invariant.same, stop)
+    rw (c.tell.ensures, ← c.loop-byte.invariant.same, stop)

@@ -2,10 +2,10 @@
 use Rattle.model.specs.PictureHeader.{end_next}
 use Rattle.picture_header.proofs.read_end.Goals as goal
 
-pub returns-in_err-byte : goal.returns-in_err-byte
+pub returns-in_default : goal.returns-in_default
 unfolding end_next
-returns-in_err-byte c = rw (c.from_residual.ensures, c.in_err-byte.ensures)
+returns-in_default c = rw c.in_default.ensures
 
 pub returns : goal.returns
 unfolding end_next
-returns c = rw (c.then_some.ensures, c.in_ok-byte.ensures.shows, c.is_space.ensures)
+returns c = rw (c.tell.ensures, c.in-Some.ensures.shows, c.is_space.ensures)

@@ -21,4 +21,4 @@ returns c =
     let some = ltb c.args.at at in
     let stop : spaces_from some at (glyphs_at c.args.s.now at) ≡ found some 0 at =
     grind (arith, spaces_past, spaces_stop) in
-    rw (c.then_some.ensures, ← c.loop-byte.invariant.same, stop)
+    rw (c.tell.ensures, ← c.loop-byte.invariant.same, stop)
