@@ -106,7 +106,8 @@ fn unpack_row(raster: &[u8], row: usize, width: usize, dots: &mut [u8])
     }
 }
 
-// Unpacks a raster to the front of the dots.
+// Unpacks a raster to the front of the dots; not laid into its caller, so that its loops have the registers.
+#[inline(never)]
 pub fn unpack_rows(size: Size, raster: &[u8], dots: &mut [u8])
     requires in_size { InSize size }
     requires raster_len { length raster.now ≡ packed_size size }
